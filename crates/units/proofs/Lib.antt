@@ -1,0 +1,4 @@
+pub mod Checking
+pub mod Taking
+pub mod Keeping
+pub mod Held

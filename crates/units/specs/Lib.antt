@@ -1,0 +1,7 @@
+pub mod Refusals
+pub mod Sides
+pub mod Registrations
+pub mod Offers
+pub mod Totals
+pub mod Moves
+pub mod Units
