@@ -3,4 +3,6 @@ pub mod figures;
 pub mod offer;
 pub mod refusal;
 pub mod side;
+#[cfg(test)]
+mod tests;
 pub mod unit;

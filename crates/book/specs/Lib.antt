@@ -1,0 +1,5 @@
+pub mod Ledger
+pub mod Tables
+pub mod Places
+pub mod Books
+pub mod Worked
