@@ -9,9 +9,9 @@ use Rattle.std.specs.declared.option.Option.{Option}
 use Rattle.std.specs.declared.option.Option.the-variants.{Some, None}
 use Rattle.std.specs.Options.{isSome}
 use Rattle.units.specs.declared.figures.Registration.{Registration}
-use Rattle.units.specs.declared.offer.Pair.{Pair}
+use Rattle.units.specs.declared.pair.Pair.{Pair}
 use Rattle.units.specs.Registrations.{number-in-range, megawatts-in-range, in-range, agrees, figures-of}
-use Rattle.units.specs.Offers.{summed, price-in-range, offer-in-range, rises}
+use Rattle.units.specs.Pairs.{summed, price-in-range, offer-in-range, rises}
 use Rattle.units.specs.Units.{UnitState, new-unit, may-declare, declared, may-notify, notified, offering, closed-at}
 use Rattle.book.specs.declared.row.Row.{Row}
 

@@ -7,7 +7,7 @@ use lib.IntN.{pos}
 use Rattle.std.specs.declared.option.Option.{Option}
 use Rattle.std.specs.declared.option.Option.the-variants.{Some, None}
 use Rattle.units.specs.declared.figures.Registration.{Registration}
-use Rattle.units.specs.Offers.{pair}
+use Rattle.units.specs.Pairs.{pair}
 use Rattle.units.specs.Units.{UnitState}
 use Rattle.book.specs.Ledger.{Ledger, Call, registering, declaring, notifying, making-offer, closing, Answer, done, refused, empty, unit-named, step, run}
 

@@ -7,7 +7,8 @@ use crate::tables::RowTable;
 use crate::tables::UnitTable;
 use units::figures::Registration;
 use units::offer::Offer;
-use units::offer::Pair;
+use units::pair::Pair;
+use units::pair::is_price;
 use units::refusal::Refusal;
 use units::unit::GeneratingUnit;
 
@@ -124,7 +125,7 @@ impl Book {
         ensures answers_as_the_ledger { λ r. ⌜ answer-of r ≡ step (ledger-of (now (self .entry))) (closing price) .1 ⌝ }
         ensures is_the_ledger_after_the_call { λ _. ⌜ ledger-of (now (self .exit)) ≡ step (ledger-of (now (self .entry))) (closing price) .0 ⌝ }
     {
-        let true = (-10000000 <= price && price <= 10000000) else {
+        let true = is_price(price) else {
             return Err(Refusal::OutOfRange);
         };
         let false = self.closed else {

@@ -2,7 +2,7 @@
 use crate::*;
 use std::test::*;
 use units::figures::Registration;
-use units::offer::Pair;
+use units::pair::Pair;
 use units::refusal::Refusal;
 use units::refusal::RefusalDebug;
 use units::refusal::RefusalPartialEq;

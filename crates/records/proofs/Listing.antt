@@ -10,7 +10,7 @@ use Rattle.std.specs.declared.result.Result.the-variants.{Ok}
 use Rattle.std.proofs.shelf.Tests.{le-ltb, eq-eqb}
 use Rattle.std.proofs.shelf.Ways.{tells}
 use Rattle.std.proofs.shelf.Lists.{append-nil, append-assoc, take-more-set, drop-drop, getD-drop, length-set}
-use Rattle.units.specs.declared.offer.Pair.{Pair}
+use Rattle.units.specs.declared.pair.Pair.{Pair}
 use Rattle.units.specs.Registrations.{within}
 use Rattle.book.specs.Ledger.{making-offer}
 use Rattle.records.specs.declared.«record».Kind.the-variants.{Offer}

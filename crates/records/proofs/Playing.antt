@@ -13,8 +13,8 @@ use Rattle.std.specs.declared.result.Result.the-variants.{Ok, Err}
 use Rattle.std.proofs.shelf.Lists.{length-drop}
 use Rattle.book.specs.Ledger.{Ledger}
 use Rattle.records.specs.Frames.{Framed, frame-of, next-at, place-after}
-use Rattle.records.proofs.Cutting.{frame-within}
 use Rattle.records.specs.Playing.{FaultFigures, taken-up, from-next, played-from, played-on}
+use Rattle.records.proofs.Cutting.{frame-within}
 
 -- the records from this place on, with this ledger, give what all of them give from the ledger at the start
 pub record Left (start : Ledger) (bytes : List ℕ) (at : ℕ) (l : Ledger) : Type 0 where
@@ -31,11 +31,11 @@ unfolding played-from
 played-step zero bytes at l h = absurd (omega arith)
 played-step (suc fuel) bytes at l h = let e : suc fuel - 1 ≡ fuel = omega arith in rw e refl
 
--- a reader stays within the bytes
 there-only : (b : Bool) (r s : Result Framed ℕ) → Some r ≡ cond b (Some s) None → (b ≡ true) × (r ≡ s)
 there-only true r s e = (refl, cc)
 there-only false r s e = let z : _≡_ {A = ℕ} 0 1 = cc in absurd (omega arith)
 
+-- a reader stays within the bytes
 place-within : (bytes : List ℕ) (at : ℕ) (r : Result Framed ℕ) → Some r ≡ next-at bytes at → at ≤ length bytes → place-after at (Some r) ≤ length bytes
 place-within bytes at (Err number) e h = h
 place-within bytes at (Ok f) e h =

@@ -9,9 +9,9 @@ use Rattle.std.specs.declared.option.Option.the-variants.{Some, None}
 use Rattle.std.specs.declared.result.Result.{Result}
 use Rattle.std.specs.declared.result.Result.the-variants.{Ok, Err}
 use Rattle.units.specs.declared.figures.Registration.{Registration}
-use Rattle.units.specs.declared.offer.Pair.{Pair}
+use Rattle.units.specs.declared.pair.Pair.{Pair}
 use Rattle.units.specs.Registrations.{within}
-use Rattle.units.specs.Offers.{pair}
+use Rattle.units.specs.Pairs.{pair}
 use Rattle.book.specs.Ledger.{Call, registering, declaring, notifying, making-offer, closing}
 use Rattle.records.specs.declared.«record».Kind.{Kind}
 use Rattle.records.specs.declared.«record».Kind.the-variants.{Unit as OfUnit, Availability, Notification, Offer, Closing}

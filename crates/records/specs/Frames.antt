@@ -17,7 +17,8 @@ pub record Framed : Type 0 where
   pub body : List ℕ
 
 -- the record at the front of the bytes that are left: its length, which counts what follows it, and its kind are two bytes each.
--- 18 where fewer bytes are left than the two of the length and those that it counts, then 20 where it does not count the kind
+-- 18 where fewer bytes are left than the two of the length and those that it counts (so a lone byte is 18),
+-- then 20 where the length is under 2, so that it does not count the kind
 unfoldable pub frame-of : ℕ → List ℕ → Result Framed ℕ
 frame-of offset rest =
     cond (ltb (length rest) (2 + word-at rest 0)) (Err 18)
@@ -28,7 +29,7 @@ frame-of offset rest =
 abbrev pub next-at : List ℕ → ℕ → Option (Result Framed ℕ)
 next-at bytes at = cond (ltb at (length bytes)) (Some (frame-of at (drop at bytes))) None
 
--- where the reader goes on: past a frame
+-- where the reader goes on: past a frame, and at the end or a refusal it stays
 abbrev pub place-after : ℕ → Option (Result Framed ℕ) → ℕ
 place-after at None = at
 place-after at (Some (Err number)) = at

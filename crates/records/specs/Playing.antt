@@ -44,7 +44,7 @@ abbrev pub taken-up : ℕ → Ledger → Result Framed ℕ → Outcome
 taken-up offset l (Err number) = (l, Some (fault number 1 offset))
 taken-up offset l (Ok f) = called offset l (decode-of (f .kind) (f .body))
 
--- a fault stops; else the records go on with the ledger that they found
+-- a fault stops; else the records after it go on from the ledger that this one left
 abbrev pub stopped-or : Option FaultFigures → Ledger → (Ledger → Outcome) → Outcome
 stopped-or (Some f) l more = (l, Some f)
 stopped-or None l more = more l

@@ -4,7 +4,7 @@ use Prim.Native.Nat.{ℕ}
 use lib.ListN.{take}
 use Rattle.std.specs.declared.result.Result.{Result}
 use Rattle.std.specs.declared.result.Result.the-variants.{Ok, Err}
-use Rattle.units.specs.declared.offer.Pair.{Pair}
+use Rattle.units.specs.declared.pair.Pair.{Pair}
 use Rattle.units.specs.declared.refusal.Refusal.{Refusal}
 use Rattle.units.specs.Refusals.{number-of}
 use Rattle.book.specs.Ledger.{Call, registering, declaring, notifying, making-offer, closing}

@@ -3,7 +3,7 @@ ghost use mathlib.Core.Path.{_≡_};
 ghost use Prim.Native.Nat.{_≤_};
 ghost use lib.ListN.{length};
 use units::figures::Registration;
-use units::offer::Pair;
+use units::pair::Pair;
 
 mod acts;
 

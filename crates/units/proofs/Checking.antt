@@ -10,9 +10,11 @@ use lib.Signed.{ltZ, _<ℤ_, _≤ℤ_}
 use lib.ListN.{length, getD, drop}
 use borrow.Author.Differences.{ints}
 use Rattle.std.proofs.shelf.Lists.{drop-more, drop-all, length-drop}
+use Rattle.std.proofs.shelf.Tests.{and-parts, and-from}
 use Rattle.std.proofs.shelf.Ways.{tells}
-use Rattle.units.specs.declared.offer.Pair.{Pair}
-use Rattle.units.specs.Offers.{pair, summed, pair-in-range, all-in-range, rises}
+use Rattle.units.specs.Registrations.{within}
+use Rattle.units.specs.declared.pair.Pair.{Pair}
+use Rattle.units.specs.Pairs.{pair, summed, price-in-range, prices-in-range, pair-in-range, all-in-range, rises}
 
 -- what stands where no pair does
 abbrev pub none : Pair
@@ -24,6 +26,13 @@ ranges-more ps i h = ap all-in-range (drop-more ps i none h)
 
 pub ranges-end : (ps : List Pair) (i : ℕ) → length ps ≤ i → all-in-range (drop i ps) ≡ true
 ranges-end ps i h = ap all-in-range (drop-all i ps h)
+
+-- pairs in their ranges have prices in theirs
+pub ranges-priced : (ps : List Pair) → all-in-range ps ≡ true → prices-in-range ps ≡ true
+ranges-priced [] h = refl
+ranges-priced (p ∷ ps) h =
+    let both = and-parts (pair-in-range p) (all-in-range ps) h in
+    and-from (price-in-range (p .price)) (prices-in-range ps) (and-parts (within 1 5000 (p .quantity)) (price-in-range (p .price)) (both .0) .1) (ranges-priced ps (both .1))
 
 -- ---- sums, counted down
 pub sum-more : (ps : List Pair) (i : ℕ) → i < length ps → summed (drop i ps) ≡ getD ps i none .quantity + summed (drop (i + 1) ps)

@@ -12,10 +12,11 @@ use Rattle.std.specs.declared.option.Option.the-variants.{Some, None}
 use Rattle.std.proofs.shelf.Lists.{length-take-le}
 use Rattle.std.proofs.shelf.Tests.{cond-both}
 use Rattle.units.specs.declared.figures.Figures.{Figures}
-use Rattle.units.specs.declared.offer.Pair.{Pair}
+use Rattle.units.specs.declared.pair.Pair.{Pair}
 use Rattle.units.specs.declared.offer.Offer.{Offer}
 use Rattle.units.specs.declared.unit.GeneratingUnit.{GeneratingUnit}
-use Rattle.units.specs.Offers.{pairs-of, offer-of, summed}
+use Rattle.units.specs.Pairs.{summed}
+use Rattle.units.specs.Offers.{pairs-of, offer-of}
 use Rattle.units.specs.Totals.{offered-total}
 use Rattle.units.specs.Moves.{risen, fallen, moved, Same-offer}
 use Rattle.units.specs.Units.{state-of, closing-offer, closed-at}

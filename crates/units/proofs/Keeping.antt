@@ -11,8 +11,8 @@ use lib.Signed.{ltZ}
 use lib.ListN.{length}
 use Rattle.std.proofs.shelf.Lists.{length-map}
 use Rattle.std.proofs.shelf.Tests.{cond-both, cond-true, cond-false, lt-ltb, le-ltb, ltb-true, ltb-false, cases-lt}
-use Rattle.units.specs.declared.offer.Pair.{Pair}
-use Rattle.units.specs.Offers.{pair, summed, rises}
+use Rattle.units.specs.declared.pair.Pair.{Pair}
+use Rattle.units.specs.Pairs.{pair, summed, price-in-range, prices-in-range, rises}
 use Rattle.units.specs.Moves.{price-at, grow-first, grow-last, off-front, risen, fallen, moved, Same-offer}
 use Rattle.units.proofs.Taking.{by-sum, backwards}
 
@@ -138,12 +138,29 @@ rises-alike ps qs e = rises-climbs qs ∙ (ap climbs e ∙ sym (rises-climbs ps)
 length-alike : (ps qs : List Pair) → prices qs ≡ prices ps → length qs ≡ length ps
 length-alike ps qs e = sym (length-map qs (λ (p : Pair). p .price)) ∙ (ap length e ∙ length-map ps (λ (p : Pair). p .price))
 
+abbrev priced-all : List ℤ → Bool
+priced-all [] = true
+priced-all (a ∷ cs) = price-in-range a && priced-all cs
+
+priced-prices : (ps : List Pair) → prices-in-range ps ≡ priced-all (prices ps)
+priced-prices [] = refl
+priced-prices (p ∷ ps) = ap (λ r. price-in-range (p .price) && r) (priced-prices ps)
+
 -- ---- the law
 prices-up-by : (d : ℕ) (ps : List Pair) → prices (up-by d ps) ≡ prices ps
 prices-up-by d ps = prices-by-sum d (grow-first d ps) ∙ prices-grow-first d ps
 
 prices-fallen : (d : ℕ) (ps : List Pair) → prices (fallen d ps) ≡ prices ps
 prices-fallen d ps = prices-off-front d (grow-last d ps) ∙ prices-grow-last d ps
+
+-- a move keeps prices in their range
+pub moved-priced : (n m : ℕ) (ps : List Pair) → prices-in-range (moved n m ps) ≡ prices-in-range ps
+moved-priced n m ps =
+    let e : prices (moved n m ps) ≡ prices ps =
+    cond-both (ltb n m) (risen (m - n) ps) (fallen (n - m) ps) (λ qs. prices qs ≡ prices ps)
+    (λ h. ap prices (sym (backwards (m - n) (grow-first (m - n) ps))) ∙ prices-up-by (m - n) ps)
+    (λ h. prices-fallen (n - m) ps) in
+    priced-prices (moved n m ps) ∙ (ap priced-all e ∙ sym (priced-prices ps))
 
 rises-by : (n m : ℕ) (ps : List Pair) → n ≤ m → m ≤ summed ps → Same-offer n m ps (up-by (m - n) ps)
 rises-by n m ps h k =

@@ -6,8 +6,8 @@ use native.Mathlib.Omega.{arith}
 use native.Mathlib.Numerals.{add-one}
 use lib.ListN.{length, getD, set, take, drop}
 use Rattle.std.proofs.shelf.Lists.{append-assoc, take-more, take-more-set, drop-more, drop-set-lt, set-at, getD-at, length-take-le, take-all, drop-all, append-nil, reverse-append}
-use Rattle.units.specs.declared.offer.Pair.{Pair}
-use Rattle.units.specs.Offers.{pair, summed}
+use Rattle.units.specs.declared.pair.Pair.{Pair}
+use Rattle.units.specs.Pairs.{pair, summed}
 use Rattle.units.specs.Moves.{off-front, off-back, grow-last}
 use Rattle.units.proofs.Checking.{none}
 

@@ -6,8 +6,8 @@ use Prim.Native.Nat.{ℕ, _+_, _-_, _<_}
 use lib.Dec.{ltb}
 use lib.IntN.{ℤ, pos}
 use lib.ListN.{length}
-use Rattle.units.specs.declared.offer.Pair.{Pair}
-use Rattle.units.specs.Offers.{pair, summed, rises}
+use Rattle.units.specs.declared.pair.Pair.{Pair}
+use Rattle.units.specs.Pairs.{pair, summed, rises}
 
 -- pair 1 grows by d
 abbrev pub grow-first : ℕ → List Pair → List Pair

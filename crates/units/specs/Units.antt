@@ -8,10 +8,11 @@ use lib.IntN.{ℤ}
 use Rattle.std.specs.declared.option.Option.{Option}
 use Rattle.std.specs.declared.option.Option.the-variants.{Some, None}
 use Rattle.units.specs.declared.figures.Figures.{Figures}
-use Rattle.units.specs.declared.offer.Pair.{Pair}
+use Rattle.units.specs.declared.pair.Pair.{Pair}
 use Rattle.units.specs.declared.unit.GeneratingUnit.{GeneratingUnit}
 use Rattle.units.specs.Registrations.{within}
-use Rattle.units.specs.Offers.{pair, offer-of, summed, rises}
+use Rattle.units.specs.Pairs.{pair, summed, rises}
+use Rattle.units.specs.Offers.{offer-of}
 use Rattle.units.specs.Moves.{moved}
 
 -- a unit: its registered figures, availability, notification and offer, and nothing else; without an offer it has no pairs

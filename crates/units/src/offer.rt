@@ -1,18 +1,13 @@
 // Offers of a unit.
 ghost use mathlib.Core.Path.{_≡_};
 ghost use Prim.Native.Nat.{_≤_};
-ghost use lib.ListN.{length};
+ghost use mathlib.Core.Bool.{true};
+ghost use lib.ListN.{length, take};
+ghost use Rattle.units.specs.Pairs.{prices-in-range};
+use crate::pair::Pair;
 
 mod acts;
 mod moves;
-
-// So many megawatts at a price, in bani per megawatt.
-// A quantity has 32 bits, since a move adds to a pair before it takes off.
-#[derive(Clone, Copy)]
-pub struct Pair {
-    pub quantity: u32,
-    pub price: i32,
-}
 
 // 1 to 5 pairs, stacked from 0 upward.
 #[derive(Clone, Copy)]
@@ -22,4 +17,5 @@ pub struct Offer {
     ghost some: { 1 ≤ count },
     ghost few: { count ≤ 5 },
     ghost long: { length pairs ≡ 5 },
+    ghost priced: { prices-in-range (take count pairs) ≡ true },
 }

@@ -1,6 +1,7 @@
 // Examples, as tables.
 use crate::figures::*;
 use crate::offer::*;
+use crate::pair::*;
 use crate::refusal::*;
 use crate::unit::*;
 use std::test::*;
@@ -35,7 +36,7 @@ fn unit(first: u16, second: u16, notified: u16) -> GeneratingUnit {
     if let Some(offer) = Offer::new(&pairs) {
         let _ = unit.offer(offer);
     }
-    unit.close(0);
+    let _ = unit.close(0);
     unit
 }
 

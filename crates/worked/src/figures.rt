@@ -1,6 +1,6 @@
 // The units and offers of the worked intervals.
 use units::figures::Registration;
-use units::offer::Pair;
+use units::pair::Pair;
 
 // A thermal unit of 120 megawatts, qualified for band.
 pub fn thermal() -> Registration {

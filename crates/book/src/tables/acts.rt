@@ -7,6 +7,7 @@ ghost use lib.IntN.{ℤ};
 ghost use lib.ListN.{length, take, getD, set};
 ghost use Rattle.std.specs.Options.{Cases as BySome};
 ghost use Rattle.std.specs.declared.option.Option.the-variants.{Some, None};
+ghost use Rattle.units.specs.Pairs.{price-in-range};
 ghost use Rattle.units.specs.Units.{UnitState, state-of, closed-at};
 ghost use Rattle.book.specs.Ledger.{unit-named, changed, has-rows};
 ghost use Rattle.book.specs.Tables.{unit-of, units-of, rows-of};
@@ -41,6 +42,18 @@ fn blank() -> UnitEntry {
             up_rate: 0,
             down_rate: 0,
         }),
+    }
+}
+
+// A unit once the book is closed at this price.
+fn closed(unit: GeneratingUnit, price: i32) -> GeneratingUnit
+    requires { ⌜ price-in-range price ≡ true ⌝ }
+    ensures offers_at_the_price_if_it_had_no_offer { λ r. ⌜ state-of r ≡ closed-at price (state-of unit) ⌝ }
+{
+    let mut unit = unit;
+    match unit.close(price) {
+        Ok(()) => unit,
+        Err(_) => unreachable(),
     }
 }
 
@@ -98,11 +111,11 @@ impl UnitTable {
 
     // Gives every unit without an offer one at this price.
     pub(crate) fn close(&mut self, price: i32)
+        requires { ⌜ price-in-range price ≡ true ⌝ }
         ensures closes_every_unit { λ _. ⌜ units-of (now (self .exit)) ≡ map (closed-at price) (units-of (now (self .entry))) ⌝ }
     {
         for i in 0..self.count {
-            let mut unit = self.entries[i].unit;
-            unit.close(price);
+            let unit = closed(self.entries[i].unit, price);
             self.entries[i].unit = unit;
         }
     }

@@ -1,7 +1,5 @@
 // Cutting records.
 ghost use mathlib.Core.Path.{_≡_};
-ghost use Prim.Native.Nat.{_+_};
-ghost use lib.ListN.{length};
 ghost use Rattle.records.specs.Frames.{frame-of, next-at, place-after};
 ghost use Rattle.records.specs.Readers.{framed, found};
 use super::Frame;

@@ -12,7 +12,7 @@ use super::Record;
 use crate::bytes::figure_at;
 use crate::bytes::price_at;
 use units::figures::Registration;
-use units::offer::Pair;
+use units::pair::Pair;
 use units::refusal::Refusal;
 
 impl Kind {

@@ -6,19 +6,11 @@ ghost use Prim.Native.Nat.{ℕ, _≤_};
 ghost use lib.Dec.{eqb};
 ghost use lib.ListN.{length, take};
 ghost use Rattle.std.specs.Options.{Cases as BySome};
-ghost use Rattle.units.specs.Offers.{pair, pairs-of, summed, pair-in-range, all-in-range, offer-in-range, rises};
+ghost use Rattle.units.specs.Pairs.{summed, price-in-range, all-in-range, offer-in-range, rises};
+ghost use Rattle.units.specs.Offers.{pairs-of};
 use super::Offer;
-use super::Pair;
-
-impl Pair {
-    // Whether quantity and price lie in their ranges.
-    pub fn in_range(&self) -> bool
-        ensures tells_the_ranges { λ r. ⌜ r ≡ pair-in-range (now (self .entry)) ⌝ }
-    {
-        (1 <= self.quantity && self.quantity <= 5000)
-            && (-10000000 <= self.price && self.price <= 10000000)
-    }
-}
+use crate::pair::Pair;
+use crate::pair::is_price;
 
 fn all_in_range(pairs: &[Pair]) -> bool
     ensures tells_every_range { λ r. ⌜ r ≡ all-in-range (now (pairs .entry)) ⌝ }
@@ -60,14 +52,17 @@ impl Offer {
         })
     }
 
-    // An offer of one pair.
-    pub fn single(pair: Pair) -> Offer
-        ensures holds_the_pair { λ r. ⌜ pairs-of r ≡ pair ∷ [] ⌝ }
+    // An offer of one pair, if its price lies in its range.
+    pub fn single(pair: Pair) -> Option<Offer>
+        ensures made_exactly_of_a_price_in_range { λ r. ⌜ BySome r (price-in-range (pair .price) ≡ false) (λ o. (price-in-range (pair .price) ≡ true) × (pairs-of o ≡ pair ∷ [])) ⌝ }
     {
-        Offer {
+        if !is_price(pair.price) {
+            return None;
+        }
+        Some(Offer {
             pairs: [pair; 5],
             count: 1,
-        }
+        })
     }
 
     pub fn pairs(&self) -> &[Pair]

@@ -2,10 +2,11 @@
 ghost use mathlib.Core.Path.{_≡_};
 ghost use Prim.Native.Nat.{ℕ, _+_, _<_, _≤_};
 ghost use lib.ListN.{length};
-ghost use Rattle.units.specs.Offers.{pairs-of, summed};
+ghost use Rattle.units.specs.Pairs.{summed};
+ghost use Rattle.units.specs.Offers.{pairs-of};
 ghost use Rattle.units.specs.Moves.{off-front, off-back, moved};
 use super::Offer;
-use super::Pair;
+use crate::pair::Pair;
 
 // Takes d off from pair 1 forwards.
 fn take_off_front(pairs: &mut [Pair], d: u32)

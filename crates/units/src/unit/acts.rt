@@ -5,14 +5,15 @@ ghost use mathlib.Core.Bool.{Bool, true, false, cond};
 ghost use Rattle.std.specs.declared.option.Option.the-variants.{Some, None};
 ghost use Rattle.std.specs.Results.{isOk};
 ghost use Rattle.units.specs.Refusals.{refused-by};
-ghost use Rattle.units.specs.Offers.{pairs-of, offer-of, summed};
+ghost use Rattle.units.specs.Pairs.{summed, price-in-range};
+ghost use Rattle.units.specs.Offers.{pairs-of, offer-of};
 ghost use Rattle.units.specs.Totals.{offered-total};
 ghost use Rattle.units.specs.Moves.{moved, Same-offer};
 ghost use Rattle.units.specs.Units.{state-of, new-unit, may-declare, declared, may-notify, notified, offer-refusal, offering, closed-at};
 use super::GeneratingUnit;
 use crate::figures::Figures;
 use crate::offer::Offer;
-use crate::offer::Pair;
+use crate::pair::Pair;
 use crate::refusal::Refusal;
 
 // The offer after the notification went from one figure to another: moved, if the book is closed.
@@ -87,15 +88,20 @@ impl GeneratingUnit {
     }
 
     // Gives a unit without an offer one pair: installed power at the closing price.
-    pub fn close(&mut self, price: i32)
-        ensures only_a_missing_offer_is_made { λ _. ⌜ state-of (now (self .exit)) ≡ closed-at price (state-of (now (self .entry))) ⌝ }
+    pub fn close(&mut self, price: i32) -> Result<(), Refusal>
+        ensures refused_at_a_price_out_of_range { λ r. ⌜ refused-by r ≡ cond (price-in-range price) None (Some 1) ⌝ }
+        ensures only_a_missing_offer_is_made { λ r. ⌜ state-of (now (self .exit)) ≡ cond (isOk r) (closed-at price (state-of (now (self .entry)))) (state-of (now (self .entry))) ⌝ }
     {
-        let None = self.offer else {
-            return;
-        };
-        self.offer = Some(Offer::single(Pair {
+        let Some(offer) = Offer::single(Pair {
             quantity: self.figures.installed as u32,
             price,
-        }));
+        }) else {
+            return Err(Refusal::OutOfRange);
+        };
+        let None = self.offer else {
+            return Ok(());
+        };
+        self.offer = Some(offer);
+        Ok(())
     }
 }

@@ -16,8 +16,9 @@ loop-i-holds c = search (needs, changing-none)
 
 pub loop-i-again : need.loop-i-again
 loop-i-again c =
-    changing-more (c .loop-i .inv) (count-units (c .args .self .now)) (omega arith) (c .index-self-i .result) (record { unit = c .close .last .self }) (c .index-self-i .is) refl refl
-    (c .close .ensures .only-a-missing-offer-is-made ∙ ap (λ (e : UnitEntry). closed-at (toZ w32 (ofZ w32 (c .args .price))) (unit-of e)) (sym (c .index-self-i .is)))
+    let u = c .index-self-i .result in
+    changing-more (c .loop-i .inv) (count-units (c .args .self .now)) (omega arith) u (record { unit = c .closed-unit .result }) (c .index-self-i .is) refl refl
+    (c .closed-unit .ensures .offers-at-the-price-if-it-had-no-offer ∙ ap (λ (e : UnitEntry). closed-at (toZ w32 (ofZ w32 (c .args .price))) (unit-of e)) (sym (c .index-self-i .is)))
 
 pub returns : need.returns
 returns c =

@@ -1,7 +1,7 @@
 use mathlib.Core.Path.{_≡_}
 use Prim.Native.Nat.{_-_, _<_}
 use lib.ListN.{length, drop}
-use Rattle.units.specs.Offers.{rises}
+use Rattle.units.specs.Pairs.{rises}
 use Rattle.units.proofs.offer.acts.rise.Given as given
 
 abbrev pub Inv-loop-i : given.InvT-loop-i

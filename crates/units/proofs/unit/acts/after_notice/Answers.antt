@@ -2,7 +2,8 @@ use mathlib.Core.Path.{_≡_, ap, sym, _∙_}
 use native.Mathlib.Omega.{arith}
 use borrow.Author.Needs.{needs}
 use Prim.Native.Nat.{_≤_}
-use Rattle.units.specs.Offers.{pairs-of, offer-of, summed}
+use Rattle.units.specs.Pairs.{summed}
+use Rattle.units.specs.Offers.{pairs-of, offer-of}
 use Rattle.units.specs.Moves.{moved}
 use Rattle.units.proofs.Keeping.{keeps}
 use Rattle.units.proofs.unit.acts.after_notice.Needs as need
