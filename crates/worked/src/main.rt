@@ -1,11 +1,14 @@
 // A whole interval on two units, step by step: each call with its answer, and the units as they stand.
 mod figures;
+mod offered;
 
 use book::Book;
 use figures::other;
 use figures::pair;
 use figures::small;
 use figures::thermal;
+use offered::show_eligible;
+use offered::show_lots;
 use std::error::AnyError;
 use units::refusal::Refusal;
 use units::refusal::RefusalDisplay;
@@ -133,6 +136,8 @@ fn run(rt: &impl Print) -> Result<(), AnyError> {
     enter(rt, &mut book)?;
     offer(rt, &mut book)?;
     show_units(rt, &book)?;
+    show_lots(rt, &book)?;
+    show_eligible(rt, &book)?;
     move_offers(rt, &mut book)?;
     fill(rt)
 }

@@ -1,0 +1,13 @@
+pub mod Rules
+pub mod Orders
+pub mod Layers
+pub mod Models
+pub mod Energy
+pub mod Laws
+pub mod Markets
+pub mod Either
+pub mod Stacks
+pub mod Remainders
+pub mod Merit
+pub mod Choices
+pub mod Choosing

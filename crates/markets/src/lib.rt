@@ -1,0 +1,6 @@
+// Markets, tie rules, and choosing in merit order.
+pub mod either;
+pub mod market;
+pub mod rule;
+pub mod stack;
+pub mod theorems;
