@@ -1,13 +1,13 @@
 -- The lots of one unit and one side come in rising cost.
-use mathlib.Core.Path.{_≡_, refl, sym, ap, _∙_}
+use mathlib.Core.Path.{_≡_}
 use mathlib.Core.List.{List, [], _∷_, map, reverse}
-use mathlib.Core.Bool.{Bool, true}
-use Prim.Native.Nat.{ℕ, _+_, _-_, _≤_, _<_, min, max}
+use mathlib.Core.Bool.{true}
+use Prim.Native.Nat.{ℕ, _+_, _-_, _≤_, _<_}
 use native.Mathlib.Omega.{arith}
 use lib.IntN.{ℤ}
 use lib.Signed.{_<ℤ_, _≤ℤ_}
 use borrow.Author.Differences.{ints}
-use Rattle.std.specs.shelf.Lists.{All, joined, kept-by}
+use Rattle.std.specs.shelf.Lists.{All}
 use Rattle.std.proofs.shelf.Elements.{all-weaker, all-map}
 use Rattle.std.proofs.shelf.Tests.{ltb-true}
 use Rattle.units.specs.declared.pair.Pair.{Pair}

@@ -1,8 +1,8 @@
 -- What is known of registered figures and of prices, and what a unit has left of a side.
-use mathlib.Core.Path.{_≡_, refl, sym, ap, _∙_}
+use mathlib.Core.Path.{_≡_, ap, _∙_}
 use mathlib.Core.List.{List, [], _∷_, map}
-use mathlib.Core.Bool.{Bool, true, _&&_}
-use Prim.Native.Nat.{ℕ, _+_, _-_, _%_, _≤_}
+use mathlib.Core.Bool.{true}
+use Prim.Native.Nat.{_+_, _≤_}
 use native.Mathlib.Omega.{arith}
 use lib.IntN.{ℤ}
 use lib.Signed.{ltZ, _<ℤ_}
@@ -14,7 +14,7 @@ use Rattle.std.proofs.shelf.Ways.{tells}
 use Rattle.units.specs.declared.pair.Pair.{Pair}
 use Rattle.units.specs.declared.side.Side.{Side}
 use Rattle.units.specs.declared.figures.Registration.{Registration}
-use Rattle.units.specs.Registrations.{within, number-in-range, marks-in-range, in-range, even, agrees, figures-of}
+use Rattle.units.specs.Registrations.{in-range, agrees, figures-of}
 use Rattle.units.specs.Pairs.{summed, price-in-range, prices-in-range, rises}
 use Rattle.units.specs.Units.{UnitState}
 use Rattle.lots.specs.Spans.{Rising}

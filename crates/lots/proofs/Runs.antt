@@ -1,8 +1,8 @@
 -- Lots are runs of megawatts.
-use Prim.Native.Nat.{ℕ, _+_, _-_, _≤_, _<_, min, max}
+use Prim.Native.Nat.{ℕ, _-_, _≤_, _<_, min, max}
 use native.Mathlib.Omega.{arith}
 use Rattle.lots.specs.declared.span.Span.{Span}
-use Rattle.lots.specs.Lots.{band-size, down-lot}
+use Rattle.lots.specs.Lots.{band-size}
 use Rattle.lots.specs.Theorems.{Above-in, Below-in, In-run, Same, Lots-are-runs}
 
 -- over plain numbers: what lies from low up to high

@@ -1,9 +1,8 @@
 -- What the lots of a side sum to.
-use mathlib.Core.Path.{_≡_, refl, sym, ap, _∙_}
+use mathlib.Core.Path.{_≡_, _∙_}
 use mathlib.Core.List.{List, [], _∷_, map, reverse}
-use Prim.Native.Nat.{ℕ, _+_, _-_, _≤_, _<_, min, max}
+use Prim.Native.Nat.{ℕ, _+_, _-_, _≤_, min, max}
 use native.Mathlib.Omega.{arith}
-use Rattle.std.specs.shelf.Lists.{joined, kept-by}
 use Rattle.std.proofs.shelf.Tests.{ltb-false}
 use Rattle.units.specs.declared.pair.Pair.{Pair}
 use Rattle.units.specs.declared.side.Side.{Side}

@@ -1,6 +1,5 @@
 use mathlib.Core.Path.{_≡_, ap, _∙_}
 use native.Mathlib.Omega.{arith}
-use borrow.Author.Needs.{needs}
 use lib.ListN.{length, take}
 use Rattle.lots.proofs.Filling.{stacking-fits, stacking-more, stacking-all}
 use Rattle.lots.proofs.span.stacking.stacked.Needs as need
