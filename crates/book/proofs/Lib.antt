@@ -1,2 +1,6 @@
 pub mod Listed
 pub mod Searching
+pub mod Standing
+pub mod Naming
+pub mod Opening
+pub mod Alike
