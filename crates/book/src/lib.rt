@@ -5,6 +5,7 @@ use crate::tables::UnitTable;
 pub mod calls;
 pub mod readers;
 pub mod row;
+pub mod standings;
 pub mod tables;
 pub mod theorems;
 

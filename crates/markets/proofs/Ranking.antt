@@ -94,7 +94,7 @@ module _ (rule : RuleModel) where
   merit-left u (l ∷ ls) = omega (arith, insert-left u l (merit rule ls), merit-left u ls)
 
   -- ---- its costs ascend
-  cheap : (a b : Remaining) → before rule a b ≡ true → a .cost ≤ℤ b .cost
+  pub cheap : (a b : Remaining) → before rule a b ≡ true → a .cost ≤ℤ b .cost
   cheap a b h = grind (arith, ints)
 
   dear : (a b : Remaining) → before rule a b ≡ false → b .cost ≤ℤ a .cost

@@ -11,3 +11,5 @@ pub mod Remainders
 pub mod Merit
 pub mod Choices
 pub mod Choosing
+pub mod Candidates
+pub mod Turns
