@@ -1,8 +1,10 @@
 // A whole interval on two units, step by step: each call with its answer, and the units as they stand.
+mod chosen;
 mod figures;
 mod offered;
 
 use book::Book;
+use chosen::show_choices;
 use figures::other;
 use figures::pair;
 use figures::small;
@@ -138,6 +140,7 @@ fn run(rt: &impl Print) -> Result<(), AnyError> {
     show_units(rt, &book)?;
     show_lots(rt, &book)?;
     show_eligible(rt, &book)?;
+    show_choices(rt, &book)?;
     move_offers(rt, &mut book)?;
     fill(rt)
 }
