@@ -1,5 +1,5 @@
 -- Pairs of quantity and price, in a list.
-use Rattle.std.specs.Prelude.{ℕ, ◌+◌, Bool, true, false, cond, ◌&&◌, List, [], ◌∷◌, length, ℤ, pos, negsuc, int_le, int_lt}
+use Rattle.std.specs.Prelude.{ℕ, ◌+◌, Bool, true, ◌&&◌, List, [], ◌∷◌, length, ℤ, pos, negsuc, int_le, int_lt}
 use Rattle.units.specs.declared.pair.Pair.{Pair}
 use Rattle.units.specs.Registrations.{within}
 

@@ -1,5 +1,5 @@
 -- The refusals by number.
-use Rattle.std.specs.Prelude.{ℕ, List, Some, None, Ok, Err, Option, Result}
+use Rattle.std.specs.Prelude.{ℕ, Some, None, Ok, Err, Option, Result}
 use Rattle.units.specs.declared.refusal.Refusal.{Refusal}
 use Rattle.units.specs.declared.refusal.Refusal.TheVariants.{OutOfRange, AlreadyClosed, NotClosed, NoSuchUnit, NumberTaken, UnitsFull, FiguresDisagree, BoundBroken, RowsStand, PricesNotRising, SumDiffers, EnergyStands, NothingEligible, NumbersSpent, RowsFull, NoOpenSelection, ListingTooLong, BytesMissing, UnknownKind, WrongLength}
 

@@ -1,5 +1,5 @@
 -- What may be registered of a unit, and what is kept of it.
-use Rattle.std.specs.Prelude.{ℕ, ◌/◌, ◌%◌, Bool, true, false, cond, ◌&&◌, ◌==◌, nat_le}
+use Rattle.std.specs.Prelude.{ℕ, ◌/◌, ◌%◌, Bool, cond, ◌&&◌, ◌==◌, nat_le}
 use Rattle.units.specs.declared.figures.Registration.{Registration}
 use Rattle.units.specs.declared.figures.Figures.{Figures}
 use Rattle.units.specs.declared.figures.Marks.{Marks}

@@ -1,4 +1,6 @@
 // Units, their figures and offers, and what may be asked of one unit alone.
+#![tactic(auto)]
+
 pub mod figures;
 pub mod offer;
 pub mod pair;

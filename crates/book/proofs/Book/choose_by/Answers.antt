@@ -13,8 +13,8 @@ returns g c =
     let meant = g.L.Lot.figures in
     let cs = c.candidates-candidates.result in
     record {
-      takes-what-a-selection-takes-after-closing = λ closed serves.
-          let h = c.candidates-candidates.ensures.enters-every-unit serves in
-          c.choose.ensures.chooses-in-merit-order (candidates_fit meant m l cs h (facts l (invariant b) closed))
+      takes_what_a_selection_takes_after_closing = λ closed serves.
+          let h = c.candidates-candidates.ensures.enters_every_unit serves in
+          c.choose.ensures.chooses_in_merit_order (candidates_fit meant m l cs h (facts l (invariant b) closed))
           ∙ planned_is_selected meant m l cs h (g.R.TieRule.model c.args.rule.now) c.args.demand;
     }

@@ -6,8 +6,8 @@ use Rattle.book.specs.Tables.{units_of, rows_of}
 use Rattle.book.specs.Books.{ledger_of}
 use Rattle.book.proofs.Book.notify.Goals as goal
 
-pub invariant-of-self : goal.invariant-of-self
-invariant-of-self c =
+pub invariant_of-self : goal.invariant_of-self
+invariant_of-self c =
     let b = c.args.self.now in
     let call : Call = notifying c.args.number c.args.megawatts in
     let l : Ledger = record { closed = b.closed; units = units_of c.put.new.self; rows = rows_of b.rows; given = b.given } in

@@ -13,9 +13,9 @@ returns-in-Up g c =
     let said : slip_answer c.take.result ≡ (step (ledger_of b) (selecting m t c.args.number c.args.demand)).1 = search rules in
     let is : ledger_of c.take.new.self ≡ (step (ledger_of b) (selecting m t c.args.number c.args.demand)).0 = search rules in
     record {
-      answers-as-the-ledger = said;
-      is-the-ledger-after-the-call = is;
-      accepted-selection-keeps-the-laws = laws_at b m t c.args.number c.args.demand (slip_answer c.take.result) (ledger_of c.take.new.self) said is;
+      answers_as_the_ledger = said;
+      is_the_ledger_after_the_call = is;
+      accepted_selection_keeps_the_laws = laws_at b m t c.args.number c.args.demand (slip_answer c.take.result) (ledger_of c.take.new.self) said is;
     }
 
 pub returns-in-Band : goal.returns-in-Band
@@ -26,7 +26,7 @@ returns-in-Band g c =
     let said : slip_answer c.take-in-Band.result ≡ (step (ledger_of b) (selecting m t c.args.number c.args.demand)).1 = search rules in
     let is : ledger_of c.take-in-Band.new.self ≡ (step (ledger_of b) (selecting m t c.args.number c.args.demand)).0 = search rules in
     record {
-      answers-as-the-ledger = said;
-      is-the-ledger-after-the-call = is;
-      accepted-selection-keeps-the-laws = laws_at b m t c.args.number c.args.demand (slip_answer c.take-in-Band.result) (ledger_of c.take-in-Band.new.self) said is;
+      answers_as_the_ledger = said;
+      is_the_ledger_after_the_call = is;
+      accepted_selection_keeps_the_laws = laws_at b m t c.args.number c.args.demand (slip_answer c.take-in-Band.result) (ledger_of c.take-in-Band.new.self) said is;
     }

@@ -14,6 +14,6 @@ returns c =
     let t = c.of.result in
     let fits : sum_of (λ r. r.megawatts) l.rows < 2 ^ 32 = omega (arith, small_sum l.rows (small_rows b), i.few_rows) in
     let by : StandsBy t l.units l.rows =
-    subst (λ us. StandsBy t us l.rows) c.as-slice.ensures.lends-the-units
-    (subst (λ rows. StandsBy t (map unit_of c.as-slice.result.now) rows) c.as-slice-2.ensures.lends-the-rows c.of.ensures.stands-by-the-rows) in
-    record { has-what-stands-of-every-unit = by i.numbered i.few_units fits }
+    subst (λ us. StandsBy t us l.rows) c.as_slice.ensures.lends_the_units
+    (subst (λ rows. StandsBy t (map unit_of c.as_slice.result.now) rows) c.as_slice-2.ensures.lends_the_rows c.of.ensures.stands_by_the_rows) in
+    record { has_what_stands_of_every_unit = by i.numbered i.few_units fits }

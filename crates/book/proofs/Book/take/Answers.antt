@@ -11,48 +11,48 @@ use Rattle.book.proofs.Standing.{SmallRows}
 use Rattle.book.proofs.Taking.{refused-rows, made-rows}
 use Rattle.book.proofs.Book.take.Goals as goal
 
-pub invariant-of-self : goal.invariant-of-self
-invariant-of-self g c =
+pub invariant_of-self : goal.invariant_of-self
+invariant_of-self g c =
     let b = c.args.self.now in
-    let e = c.in-default.ensures in
+    let e = c.in_default.ensures in
     let r = refused-rows (g.M.Market.model c.args.market.now) (g.R.TieRule.model c.args.rule.now) c.args.carried c.args.demand (ledger_of b) (rows_of c.add.new.self) c.requires.allowed
-    b.reached g.L.Lot.figures _ c.lots.result.now c.lots.ensures.lends-the-chosen-lots
-    (c.choose-by-choice.ensures.takes-what-a-selection-takes-after-closing c.requires.allowed.closed c.requires.serves) e.tells-whether-there-is-room e.adds-a-row-for-each-or-changes-nothing in
+    b.reached g.L.Lot.figures _ c.lots.result.now c.lots.ensures.lends_the_chosen_lots
+    (c.choose_by-choice.ensures.takes_what_a_selection_takes_after_closing c.requires.allowed.closed c.requires.serves) e.tells_whether_there_is_room e.adds_a_row_for_each_or_changes_nothing in
     (r.reached, tt)
 
-pub returns-in-default : goal.returns-in-default
-returns-in-default g c =
+pub returns-in_default : goal.returns-in_default
+returns-in_default g c =
     let b = c.args.self.now in
-    let e = c.in-default.ensures in
+    let e = c.in_default.ensures in
     let r = refused-rows (g.M.Market.model c.args.market.now) (g.R.TieRule.model c.args.rule.now) c.args.carried c.args.demand (ledger_of b) (rows_of c.add.new.self) c.requires.allowed
-    b.reached g.L.Lot.figures _ c.lots.result.now c.lots.ensures.lends-the-chosen-lots
-    (c.choose-by-choice.ensures.takes-what-a-selection-takes-after-closing c.requires.allowed.closed c.requires.serves) e.tells-whether-there-is-room e.adds-a-row-for-each-or-changes-nothing in
-    record { answers-by-the-last-line = r.answer; takes-or-changes-nothing = r.becomes }
+    b.reached g.L.Lot.figures _ c.lots.result.now c.lots.ensures.lends_the_chosen_lots
+    (c.choose_by-choice.ensures.takes_what_a_selection_takes_after_closing c.requires.allowed.closed c.requires.serves) e.tells_whether_there_is_room e.adds_a_row_for_each_or_changes_nothing in
+    record { answers_by_the_last_line = r.answer; takes_or_changes_nothing = r.becomes }
 
-pub invariant-of-self-2 : goal.invariant-of-self-2
-invariant-of-self-2 g c =
+pub invariant_of-self-2 : goal.invariant_of-self-2
+invariant_of-self-2 g c =
     let b = c.args.self.now in
     let e = c.in-true.ensures in
     let r = made-rows (g.M.Market.model c.args.market.now) (g.R.TieRule.model c.args.rule.now) c.args.carried c.args.demand (ledger_of b) (rows_of c.add.new.self) c.requires.allowed
-    b.reached g.L.Lot.figures _ c.lots.result.now c.lots.ensures.lends-the-chosen-lots
-    (c.choose-by-choice.ensures.takes-what-a-selection-takes-after-closing c.requires.allowed.closed c.requires.serves) e.tells-whether-there-is-room e.adds-a-row-for-each-or-changes-nothing in
+    b.reached g.L.Lot.figures _ c.lots.result.now c.lots.ensures.lends_the_chosen_lots
+    (c.choose_by-choice.ensures.takes_what_a_selection_takes_after_closing c.requires.allowed.closed c.requires.serves) e.tells_whether_there_is_room e.adds_a_row_for_each_or_changes_nothing in
     (r.reached, tt)
 
 pub from-requires : goal.from-requires
 from-requires g c =
     let old = rows_of c.args.self.now.rows in
     let more = map (row_by (c.args.self.now.given + 1) c.args.carried) (map (commitment_in g.L.Lot.figures) c.lots.result.now) in
-    omega (arith, ap length c.in-true.ensures.adds-a-row-for-each-or-changes-nothing, length-append old more, c.len-before.ensures.counts-the-rows)
+    omega (arith, ap length c.in-true.ensures.adds_a_row_for_each_or_changes_nothing, length-append old more, c.len-before.ensures.counts_the_rows)
 
-pub open-sums-sums-requires : goal.open-sums-sums-requires
-open-sums-sums-requires g c =
+pub open_sums-sums-requires : goal.open_sums-sums-requires
+open_sums-sums-requires g c =
     let b = c.args.self.now in
     let e = c.in-true.ensures in
     let r = made-rows (g.M.Market.model c.args.market.now) (g.R.TieRule.model c.args.rule.now) c.args.carried c.args.demand (ledger_of b) (rows_of c.add.new.self) c.requires.allowed
-    b.reached g.L.Lot.figures _ c.lots.result.now c.lots.ensures.lends-the-chosen-lots
-    (c.choose-by-choice.ensures.takes-what-a-selection-takes-after-closing c.requires.allowed.closed c.requires.serves) e.tells-whether-there-is-room e.adds-a-row-for-each-or-changes-nothing in
+    b.reached g.L.Lot.figures _ c.lots.result.now c.lots.ensures.lends_the_chosen_lots
+    (c.choose_by-choice.ensures.takes_what_a_selection_takes_after_closing c.requires.allowed.closed c.requires.serves) e.tells_whether_there_is_room e.adds_a_row_for_each_or_changes_nothing in
     let is : c.from.result.now ≡ drop (length (ledger_of b).rows) (rows_of c.add.new.self) =
-    c.from.ensures.lends-the-rows-from-there ∙ ap (λ k. drop k (rows_of c.add.new.self)) c.len-before.ensures.counts-the-rows in
+    c.from.ensures.lends_the_rows_from_there ∙ ap (λ k. drop k (rows_of c.add.new.self)) c.len-before.ensures.counts_the_rows in
     record { few = omega (arith, ap length is, r.few); small = subst SmallRows (sym is) r.small }
 
 pub returns : goal.returns
@@ -60,16 +60,16 @@ returns g c =
     let b = c.args.self.now in
     let e = c.in-true.ensures in
     let r = made-rows (g.M.Market.model c.args.market.now) (g.R.TieRule.model c.args.rule.now) c.args.carried c.args.demand (ledger_of b) (rows_of c.add.new.self) c.requires.allowed
-    b.reached g.L.Lot.figures _ c.lots.result.now c.lots.ensures.lends-the-chosen-lots
-    (c.choose-by-choice.ensures.takes-what-a-selection-takes-after-closing c.requires.allowed.closed c.requires.serves) e.tells-whether-there-is-room e.adds-a-row-for-each-or-changes-nothing in
+    b.reached g.L.Lot.figures _ c.lots.result.now c.lots.ensures.lends_the_chosen_lots
+    (c.choose_by-choice.ensures.takes_what_a_selection_takes_after_closing c.requires.allowed.closed c.requires.serves) e.tells_whether_there_is_room e.adds_a_row_for_each_or_changes_nothing in
     let is : c.from.result.now ≡ drop (length (ledger_of b).rows) (rows_of c.add.new.self) =
-    c.from.ensures.lends-the-rows-from-there ∙ ap (λ k. drop k (rows_of c.add.new.self)) c.len-before.ensures.counts-the-rows in
+    c.from.ensures.lends_the_rows_from_there ∙ ap (λ k. drop k (rows_of c.add.new.self)) c.len-before.ensures.counts_the_rows in
     let n = b.given + 1 in
-    let sums = c.open-sums-sums.ensures in
+    let sums = c.open_sums-sums.ensures in
     let figures : figures_of c.of.result ≡ slip_of n (open_rows n (drop (length (ledger_of b).rows) (rows_of c.add.new.self))) =
     λ i. record {
-      number = c.of.ensures.has-the-number i;
-      megawatts = (c.of.ensures.has-the-sums.0 ∙ (sums.adds-the-megawatts ∙ ap (λ rs. megawatts_of (open_rows n rs)) is)) i;
-      cost = (c.of.ensures.has-the-sums.1 ∙ (sums.adds-the-cost ∙ ap (λ rs. cost_of (open_rows n rs)) is)) i;
+      number = c.of.ensures.has_the_number i;
+      megawatts = (c.of.ensures.has_the_sums.0 ∙ (sums.adds_the_megawatts ∙ ap (λ rs. megawatts_of (open_rows n rs)) is)) i;
+      cost = (c.of.ensures.has_the_sums.1 ∙ (sums.adds_the_cost ∙ ap (λ rs. cost_of (open_rows n rs)) is)) i;
     } in
-    record { answers-by-the-last-line = r.answer (figures_of c.of.result) figures; takes-or-changes-nothing = r.becomes }
+    record { answers_by_the_last_line = r.answer (figures_of c.of.result) figures; takes_or_changes_nothing = r.becomes }

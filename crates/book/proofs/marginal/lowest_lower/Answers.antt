@@ -15,12 +15,12 @@ loop-row-preserved c =
     elim c.if-number.branch [
       | then-number w ↦
           let z : to_z w32 (of_z w32 w.row_price.result) ≡ w.row_price.result = omega (arith, ints) in
-          let own = sym c.number.ensures.is-the-number-of-the-market ∙ (w.if-number.true ∙ c.number-in-loop-row.ensures.is-the-number-of-the-market) in
-          let more = row_counts lowest lower lowest_push price c.args.market c.args.rows.now i _ c.loop-row-test.true own _ (z ∙ w.row_price.ensures.is-the-price-in-the-offer) in
-          w.best-is ∙ (w.lower-best.ensures.is-the-lower ∙ (ap (λ b. lower b (to_z w32 (of_z w32 w.row_price.result))) c.loop-row.invariant ∙ more))
+          let own = sym c.number.ensures.is_the_number_of_the_market ∙ (w.if-number.true ∙ c.number-in-loop-row.ensures.is_the_number_of_the_market) in
+          let more = row_counts lowest lower lowest_push price c.args.market c.args.rows.now i _ c.loop-row-test.true own _ (z ∙ w.row_price.ensures.is_the_price_in_the_offer) in
+          w.best-is ∙ (w.lower-best.ensures.is_the_lower ∙ (ap (λ b. lower b (to_z w32 (of_z w32 w.row_price.result))) c.loop-row.invariant ∙ more))
       | else-number w ↦
           w.best-is ∙ (c.loop-row.invariant ∙ row-counts-not lowest lower lowest_push price c.args.market c.args.rows.now i _ c.loop-row-test.true
-          (λ e. w.if-number.false (c.number.ensures.is-the-number-of-the-market ∙ (e ∙ sym c.number-in-loop-row.ensures.is-the-number-of-the-market))))
+          (λ e. w.if-number.false (c.number.ensures.is_the_number_of_the_market ∙ (e ∙ sym c.number-in-loop-row.ensures.is_the_number_of_the_market))))
     ]
 
 pub returns : goal.returns

@@ -3,4 +3,4 @@ use Rattle.lots.proofs.Costing.{lots_rise}
 use Rattle.lots.proofs.theorems.lots_of_a_side.Goals as goal
 
 pub returns : goal.returns
-returns c = record { lots-sum-to-what-is-offered = lots_sum; lots-of-one-unit-rise-in-cost = lots_rise }
+returns c = record { lots_sum_to_what_is_offered = lots_sum; lots_of_one_unit_rise_in_cost = lots_rise }

@@ -5,25 +5,25 @@ use Rattle.markets.proofs.choose.choose.Goals as goal
 pub loop-unfilled-init : goal.loop-unfilled-init
 loop-unfilled-init g c =
     let new = c.new-choice.ensures in
-    so-far-none (g.R.TieRule.model c.args.rule.now) g.L.Lot.figures c.args.candidates c.args.demand c.new-choice.result new.has-no-lots new.counts-none.0 new.counts-none.1
+    so-far-none (g.R.TieRule.model c.args.rule.now) g.L.Lot.figures c.args.candidates c.args.demand c.new-choice.result new.has_no_lots new.counts_none.0 new.counts_none.1
 
-pub returns-in-default : goal.returns-in-default
-returns-in-default g c =
+pub returns-in_default : goal.returns-in_default
+returns-in_default g c =
     let rule = g.R.TieRule.model c.args.rule.now in
     let meant = g.L.Lot.figures in
     let so = c.loop-unfilled.invariant in
     record {
-      chooses-in-merit-order = so-far-all rule meant c.args.candidates c.args.demand c.loop-unfilled.candidates c.loop-unfilled.unfilled c.loop-unfilled.choice so
-          (plan-empty rule meant c.args.candidates c.args.demand c.loop-unfilled.candidates c.loop-unfilled.unfilled c.in-default.ensures.takes-from-the-first-lot);
-      counts-the-megawatts = (so.summed, omega (arith, so.whole));
+      chooses_in_merit_order = so-far-all rule meant c.args.candidates c.args.demand c.loop-unfilled.candidates c.loop-unfilled.unfilled c.loop-unfilled.choice so
+          (plan-empty rule meant c.args.candidates c.args.demand c.loop-unfilled.candidates c.loop-unfilled.unfilled c.in_default.ensures.takes_from_the_first_lot);
+      counts_the_megawatts = (so.summed, omega (arith, so.whole));
     }
 
 pub loop-unfilled-preserved : goal.loop-unfilled-preserved
 loop-unfilled-preserved g c =
     let add = c.add.ensures in
     so_far_more (g.R.TieRule.model c.args.rule.now) g.L.Lot.figures c.args.candidates c.args.demand
-    c.loop-unfilled.candidates c.take-first.new.self c.loop-unfilled.unfilled c.loop-unfilled.choice c.add.new.self c.in-Some.chosen
-    c.loop-unfilled.invariant c.in-Some.ensures.takes-from-the-first-lot add.adds-a-lot-with-megawatts add.counts-one-more-at-most add.adds-the-megawatts
+    c.loop-unfilled.candidates c.take_first.new.self c.loop-unfilled.unfilled c.loop-unfilled.choice c.add.new.self c.in-Some.chosen
+    c.loop-unfilled.invariant c.in-Some.ensures.takes_from_the_first_lot add.adds_a_lot_with_megawatts add.counts_one_more_at_most add.adds_the_megawatts
 
 pub returns : goal.returns
 returns g c =
@@ -31,7 +31,7 @@ returns g c =
     let meant = g.L.Lot.figures in
     let so = c.loop-unfilled.invariant in
     record {
-      chooses-in-merit-order = so-far-all rule meant c.args.candidates c.args.demand c.loop-unfilled.candidates c.loop-unfilled.unfilled c.loop-unfilled.choice so
+      chooses_in_merit_order = so-far-all rule meant c.args.candidates c.args.demand c.loop-unfilled.candidates c.loop-unfilled.unfilled c.loop-unfilled.choice so
           (plan-filled rule meant c.args.candidates c.args.demand c.loop-unfilled.candidates c.loop-unfilled.unfilled (omega arith));
-      counts-the-megawatts = (so.summed, omega (arith, so.whole));
+      counts_the_megawatts = (so.summed, omega (arith, so.whole));
     }

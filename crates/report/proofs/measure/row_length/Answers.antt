@@ -7,7 +7,7 @@ use Rattle.report.proofs.measure.row_length.Goals as goal
 pub returns : goal.returns
 returns c =
     let r = c.args.row.now in
-    let market = ap (λ n. length (decimal n)) c.number.ensures.is-the-number-of-the-market in
+    let market = ap (λ n. length (decimal n)) c.number.ensures.is_the_number_of_the_market in
     let f : SFits w32 r.cost = search rules in
     let cost = ap (λ z. length (signed_decimal z)) (to_z-of_z w32 r.cost f) in
-    record { is-the-length-of-the-line = omega (arith, length_row_digits r) }
+    record { is_the_length_of_the_line = omega (arith, length_row_digits r) }

@@ -6,8 +6,8 @@ use Rattle.report.proofs.measure.width.Goals as goal
 pub loop-limit-init : goal.loop-limit-init
 loop-limit-init c = omega (arith, decimal_nonempty c.args.n (omega arith))
 
-pub overflow-add-digits : goal.overflow-add-digits
-overflow-add-digits c = omega (arith, length-decimal-le 10 c.args.n (omega arith) (omega arith) (omega arith))
+pub overflow_add-digits : goal.overflow_add-digits
+overflow_add-digits c = omega (arith, length-decimal-le 10 c.args.n (omega arith) (omega arith) (omega arith))
 
 pub loop-limit-preserved : goal.loop-limit-preserved
 loop-limit-preserved c =
@@ -19,4 +19,4 @@ returns c =
     let under : c.args.n < 10 ^ c.loop-limit.digits = omega arith in
     let most = length-decimal-le c.loop-limit.digits c.args.n (omega arith) under (omega arith) in
     let ten = length-decimal-le 10 c.args.n (omega arith) (omega arith) (omega arith) in
-    record { is-the-number-of-digits = omega arith; is-at-most-ten = omega arith }
+    record { is_the_number_of_digits = omega arith; is_at_most_ten = omega arith }

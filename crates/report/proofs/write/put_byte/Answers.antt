@@ -5,5 +5,5 @@ use Rattle.report.proofs.write.put_byte.Goals as goal
 pub returns : goal.returns
 returns c =
     record {
-      writes-the-byte = record { place = refl; after = set_split c.args.out.now c.args.at c.args.byte c.requires ∙ rw (← add-one c.args.at); room = omega arith };
+      writes_the_byte = record { place = refl; after = set_split c.args.out.now c.args.at c.args.byte c.requires ∙ rw (← add-one c.args.at); room = omega arith };
     }

@@ -6,7 +6,7 @@ use Rattle.report.proofs.write.put_signed_field.Goals as goal
 
 pub returns-then-n-lt0 : goal.returns-then-n-lt0
 returns-then-n-lt0 c =
-    let w = written_then c.put-byte-from.ensures.writes-the-byte c.put-field.ensures.writes-the-number-and-a-comma in
+    let w = written_then c.put_byte-from.ensures.writes_the_byte c.put_field.ensures.writes_the_number_and_a_comma in
     let below : c.args.n <ℤ pos 0 = omega (arith, ints) in
-    let e = c.unsigned-abs.ensures.value ∙ ap nat_abs (to_z-of_z w32 c.args.n c.ranges.n) in
-    record { writes-the-signed-number-and-a-comma = rw (signed_below c.args.n below) (rw e at w) }
+    let e = c.unsigned_abs.ensures.value ∙ ap nat_abs (to_z-of_z w32 c.args.n c.ranges.n) in
+    record { writes_the_signed_number_and_a_comma = rw (signed_below c.args.n below) (rw e at w) }

@@ -13,19 +13,19 @@ returns-then-place-lt32 c =
     let us = map unit_of c.args.units.now in
     let old = c.index-self-place.result in
     record {
-      takes-the-row-in = λ rs st.
-          row-added us rs r t _ q _ c.in-Some.ensures.finds-the-first c.if-place-lt32.true refl
-          (c.sides_with.ensures.adds-to-its-sides ∙ ap (λ (s : Standing). sides_with s r) (field-read (λ u. u.sides) no_sides t q old c.if-place-lt32.true))
-          (subst (λ square. LotsWith square r c.lots-with.result) (field-read (λ u. u.lots) [] t q old c.if-place-lt32.true) c.lots-with.ensures.adds-to-its-lot) st;
+      takes_the_row_in = λ rs st.
+          row-added us rs r t _ q _ c.in-Some.ensures.finds_the_first c.if-place-lt32.true refl
+          (c.sides_with.ensures.adds_to_its_sides ∙ ap (λ (s : Standing). sides_with s r) (field-read (λ u. u.sides) no_sides t q old c.if-place-lt32.true))
+          (subst (λ square. LotsWith square r c.lots_with.result) (field-read (λ u. u.lots) [] t q old c.if-place-lt32.true) c.lots_with.ensures.adds_to_its_lot) st;
     }
 
 pub returns-else-place-lt32 : goal.returns-else-place-lt32
 returns-else-place-lt32 c =
     record {
-      takes-the-row-in = λ rs.
-          row-past (map unit_of c.args.units.now) rs c.args.row.now c.args.self.now c.in-Some.place c.in-Some.ensures.finds-the-first c.if-place-lt32.false;
+      takes_the_row_in = λ rs.
+          row-past (map unit_of c.args.units.now) rs c.args.row.now c.args.self.now c.in-Some.place c.in-Some.ensures.finds_the_first c.if-place-lt32.false;
     }
 
-pub returns-in-default : goal.returns-in-default
-returns-in-default c =
-    record { takes-the-row-in = λ rs. row-of-none (map unit_of c.args.units.now) rs c.args.row.now c.args.self.now c.in-default.ensures.finds-the-first }
+pub returns-in_default : goal.returns-in_default
+returns-in_default c =
+    record { takes_the_row_in = λ rs. row-of-none (map unit_of c.args.units.now) rs c.args.row.now c.args.self.now c.in_default.ensures.finds_the_first }

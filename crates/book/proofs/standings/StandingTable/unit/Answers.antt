@@ -10,8 +10,8 @@ returns-then-place-lt32 c =
     let p = c.args.place in
     let s = c.index-self-place.result in
     record {
-      has-the-sides = field-read (λ u. u.sides) no_sides t p s c.if-place-lt32.true;
-      has-the-lots = λ i j. ap (λ square. cell square i j) (field-read (λ u. u.lots) [] t p s c.if-place-lt32.true);
+      has_the_sides = field-read (λ u. u.sides) no_sides t p s c.if-place-lt32.true;
+      has_the_lots = λ i j. ap (λ square. cell square i j) (field-read (λ u. u.lots) [] t p s c.if-place-lt32.true);
     }
 
 pub returns-else-place-lt32 : goal.returns-else-place-lt32
@@ -19,6 +19,6 @@ returns-else-place-lt32 c =
     let t = c.args.self.now in
     let p = c.args.place in
     record {
-      has-the-sides = c.nothing.ensures.has-no-sides ∙ sym (field_past (λ u. u.sides) no_sides t p c.if-place-lt32.false);
-      has-the-lots = λ i j. c.nothing.ensures.has-no-lots i j ∙ sym (ap (λ square. cell square i j) (field_past (λ u. u.lots) [] t p c.if-place-lt32.false));
+      has_the_sides = c.nothing.ensures.has_no_sides ∙ sym (field_past (λ u. u.sides) no_sides t p c.if-place-lt32.false);
+      has_the_lots = λ i j. c.nothing.ensures.has_no_lots i j ∙ sym (ap (λ square. cell square i j) (field_past (λ u. u.lots) [] t p c.if-place-lt32.false));
     }

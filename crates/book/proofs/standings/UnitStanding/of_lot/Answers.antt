@@ -6,7 +6,7 @@ pub returns-else-up-lt6 : goal.returns-else-up-lt6
 returns-else-up-lt6 c =
     let s = c.args.self.now in
     record {
-      reads-the-lot = elim c.else-up-lt6.either [
+      reads_the_lot = elim c.else-up-lt6.either [
         | inl (i, j) ↦ cell-after s.lots c.args.up c.args.down s.wide i j
         | inr i ↦ cell_above s.lots c.args.up c.args.down s.high i
       ];

@@ -11,7 +11,7 @@ pub returns-then-entry-number : goal.returns-then-entry-number
 returns-then-entry-number c =
     let len = length-map c.args.units.now unit_of in
     record {
-      finds-the-first =
+      finds_the_first =
           record {
             within = omega arith;
             numbered = number_read (λ n. n ≡ c.args.number) c.args.units.now c.loop-i.i c.index-units-i.result c.loop-i-test.true c.index-units-i.is c.if-entry-number.true;
@@ -28,4 +28,4 @@ pub returns : goal.returns
 returns c =
     let us = map unit_of c.args.units.now in
     let len = length-map c.args.units.now unit_of in
-    record { finds-the-first = all_from_every (λ u. number u ≡ c.args.number → ⊥) us (AllWithin-upto (λ u. number u ≡ c.args.number → ⊥) us 0 c.loop-i.i _ (omega arith) c.loop-i.invariant) }
+    record { finds_the_first = all_from_every (λ u. number u ≡ c.args.number → ⊥) us (AllWithin-upto (λ u. number u ≡ c.args.number → ⊥) us 0 c.loop-i.i _ (omega arith) c.loop-i.invariant) }

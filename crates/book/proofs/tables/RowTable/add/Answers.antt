@@ -11,15 +11,15 @@ push-requires g c = omega (arith, length-added c.loop-lot.invariant c.loop-lot.a
 
 pub loop-lot-preserved : goal.loop-lot-preserved
 loop-lot-preserved g c =
-    added_more c.loop-lot.invariant c.lot-item.result c.row-of.result (rows_of c.push.new.self) c.loop-lot-test.true c.lot-item.is
-    c.row-of.ensures.is-the-row-of-the-lot c.push.ensures.adds-at-the-end
+    added_more c.loop-lot.invariant c.lot-item.result c.row_of.result (rows_of c.push.new.self) c.loop-lot-test.true c.lot-item.is
+    c.row_of.ensures.is_the_row_of_the_lot c.push.ensures.adds_at_the_end
 
 pub returns : goal.returns
 returns g c =
     let old = c.args.self.now in
     record {
-      tells-whether-there-is-room = sym (le-leb _ 512 (omega (arith, count_rows old, c.in-true.is)));
-      adds-a-row-for-each-or-changes-nothing =
+      tells_whether_there_is_room = sym (le-leb _ 512 (omega (arith, count_rows old, c.in-true.is)));
+      adds_a_row_for_each_or_changes_nothing =
           added-all c.loop-lot.invariant c.loop-lot-test.false
           ∙ ap (λ rs. rows_of old ++ rs) (map_twice (commitment_in g.L.Lot.figures) (row_by c.args.selection c.args.market) c.args.chosen.now);
     }

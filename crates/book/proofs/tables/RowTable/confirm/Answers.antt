@@ -15,11 +15,11 @@ loop-i-preserved c =
     let row : Row = get_or rows i no_row in
     let read : row ≡ get_or rows i row = get_or_default rows i no_row row on in
     let next = map_over_more (confirmed_if c.args.selection) c.args.self.now.rows rows i row (omega arith) c.loop-i.invariant.0 read in
-    (ap (set rows i) c.confirmed-row.ensures.confirms-a-row-of-the-selection ∙ next, c.loop-i.invariant.1)
+    (ap (set rows i) c.confirmed-row.ensures.confirms_a_row_of_the_selection ∙ next, c.loop-i.invariant.1)
 
 pub returns : goal.returns
 returns c =
     let old = c.args.self.now in
     record {
-      confirms-the-rows-of-the-selection = changed_all (confirmed_if c.args.selection) old.rows c.loop-i.self.rows c.loop-i.i old.count c.loop-i.self.count (omega arith) (omega arith) c.loop-i.invariant.0 c.loop-i.invariant.1;
+      confirms_the_rows_of_the_selection = changed_all (confirmed_if c.args.selection) old.rows c.loop-i.self.rows c.loop-i.i old.count c.loop-i.self.count (omega arith) (omega arith) c.loop-i.invariant.0 c.loop-i.invariant.1;
     }

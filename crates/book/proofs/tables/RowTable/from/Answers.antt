@@ -8,4 +8,4 @@ returns c =
     let t = c.args.self.now in
     let p = c.args.place in
     let n : p + (t.count - p) ≡ t.count = omega (arith, c.requires, count_rows t) in
-    record { lends-the-rows-from-there = sym (drop-take p (t.count - p) t.rows) ∙ ap (λ k. drop p (take k t.rows)) n }
+    record { lends_the_rows_from_there = sym (drop-take p (t.count - p) t.rows) ∙ ap (λ k. drop p (take k t.rows)) n }

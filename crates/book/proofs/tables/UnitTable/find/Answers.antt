@@ -15,7 +15,7 @@ returns-then-unit-number c =
     let e : UnitEntry = get_or t.entries i c.index-self-i.result in
     let is : e ≡ get_or t.entries i e = ap (get_or t.entries i) c.index-self-i.is in
     let u = unit-at t.entries t.count (omega arith) i e (unit_of e) (omega arith) is in
-    record { finds-the-unit = searching-found c.loop-i.invariant (omega (arith, count_units t)) (unit_of e) u c.if-unit-number.true }
+    record { finds_the_unit = searching-found c.loop-i.invariant (omega (arith, count_units t)) (unit_of e) u c.if-unit-number.true }
 
 pub loop-i-preserved : goal.loop-i-preserved
 loop-i-preserved c =
@@ -27,4 +27,4 @@ loop-i-preserved c =
     searching-more c.loop-i.invariant (omega (arith, count_units t)) (unit_of e) u c.if-unit-number.false
 
 pub returns : goal.returns
-returns c = record { finds-the-unit = searching_all c.loop-i.invariant (omega (arith, count_units c.args.self.now)) }
+returns c = record { finds_the_unit = searching_all c.loop-i.invariant (omega (arith, count_units c.args.self.now)) }

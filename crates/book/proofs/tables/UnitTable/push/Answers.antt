@@ -8,8 +8,8 @@ listed c = let k = count_units c.args.self.now in search rules
 pub bounds-self-self : goal.bounds-self-self
 bounds-self-self c = omega (arith, count_units c.args.self.now)
 
-pub invariant-of-self : goal.invariant-of-self
-invariant-of-self c = let k = count_units c.args.self.now in search rules
+pub invariant_of-self : goal.invariant_of-self
+invariant_of-self c = let k = count_units c.args.self.now in search rules
 
 pub returns : goal.returns
 returns c = let k = count_units c.args.self.now in search (rules, push_at)

@@ -2,8 +2,8 @@ use Rattle.std.proofs.Common.{arith, rules}
 use Rattle.book.proofs.Listed.{count_units, put-at}
 use Rattle.book.proofs.tables.UnitTable.put.Goals as goal
 
-pub offset-bounds-self-place : goal.offset-bounds-self-place
-offset-bounds-self-place c = let k = count_units c.args.self.now in search rules
+pub offset_bounds-self-place : goal.offset_bounds-self-place
+offset_bounds-self-place c = let k = count_units c.args.self.now in search rules
 
 pub listed : goal.listed
 listed c = let k = count_units c.args.self.now in search rules

@@ -6,23 +6,23 @@ use Rattle.lots.proofs.Filling.{no_span, Priced, still-none, still-row, still-al
 use Rattle.lots.proofs.lot.band.band_lots.Goals as goal
 
 pub loop-i-init : goal.loop-i-init
-loop-i-init c = (omega arith, still-none c.no-lots-list.ensures.has-no-lots refl)
+loop-i-init c = (omega arith, still-none c.no_lots-list.ensures.has_no_lots refl)
 
-pub add-row-requires : goal.add-row-requires
-add-row-requires c = record {
-  upper-priced = All-get_or Priced c.args.spans.now c.loop-i.i no_span c.loop-i-test.true c.requires.priced;
-  lower-priced = c.requires.priced;
+pub add_row-requires : goal.add_row-requires
+add_row-requires c = record {
+  upper_priced = All-get_or Priced c.args.spans.now c.loop-i.i no_span c.loop-i-test.true c.requires.priced;
+  lower_priced = c.requires.priced;
   room = omega (arith, c.loop-i.invariant.0, c.requires.few);
 }
 
 pub loop-i-preserved : goal.loop-i-preserved
 loop-i-preserved c =
     let row : Span → List LotFigures = λ s. map (band_lot c.args.n s) (reverse c.args.spans.now) in (
-      omega (arith, c.loop-i.invariant.0, c.add-row.ensures.counts-one-more-a-pair-at-most, c.requires.few),
-      still-row (row (get_or c.args.spans.now c.loop-i.i no_span)) c.loop-i.invariant.1 (joined_drop row c.args.spans.now c.loop-i.i no_span c.loop-i-test.true) c.add-row.ensures.adds-the-lots-of-an-upper-pair,
+      omega (arith, c.loop-i.invariant.0, c.add_row.ensures.counts_one_more_a_pair_at_most, c.requires.few),
+      still-row (row (get_or c.args.spans.now c.loop-i.i no_span)) c.loop-i.invariant.1 (joined_drop row c.args.spans.now c.loop-i.i no_span c.loop-i-test.true) c.add_row.ensures.adds_the_lots_of_an_upper_pair,
     )
 
 pub returns : goal.returns
 returns c =
     let row : Span → List LotFigures = λ s. map (band_lot c.args.n s) (reverse c.args.spans.now) in
-    record { lists-the-band-lots = still-all c.loop-i.invariant.1 (joined_end row c.args.spans.now c.loop-i.i c.loop-i-test.false) }
+    record { lists_the_band_lots = still-all c.loop-i.invariant.1 (joined_end row c.args.spans.now c.loop-i.i c.loop-i-test.false) }

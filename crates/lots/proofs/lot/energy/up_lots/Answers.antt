@@ -4,17 +4,17 @@ use Rattle.lots.proofs.Filling.{no_span, still-none, still_one, still-all, map-d
 use Rattle.lots.proofs.lot.energy.up_lots.Goals as goal
 
 pub loop-i-init : goal.loop-i-init
-loop-i-init c = (omega arith, still-none c.no-lots-list.ensures.has-no-lots refl)
+loop-i-init c = (omega arith, still-none c.no_lots-list.ensures.has_no_lots refl)
 
 pub add-requires : goal.add-requires
 add-requires c = (omega arith, omega (arith, c.loop-i.invariant.0))
 
 pub loop-i-preserved : goal.loop-i-preserved
 loop-i-preserved c =
-    let lot = c.up-lot-lot.result in (
-      omega (arith, c.loop-i.invariant.0, c.add.ensures.counts-one-more-at-most),
-      still_one c.loop-i.invariant.1 (map-drop (up_lot c.args.n) c.args.spans.now c.loop-i.i no_span c.loop-i-test.true) lot lot.size c.up-lot-lot.ensures.is-the-part-above (energy_size lot) c.add.ensures.adds-a-lot-with-megawatts,
+    let lot = c.up_lot-lot.result in (
+      omega (arith, c.loop-i.invariant.0, c.add.ensures.counts_one_more_at_most),
+      still_one c.loop-i.invariant.1 (map-drop (up_lot c.args.n) c.args.spans.now c.loop-i.i no_span c.loop-i-test.true) lot lot.size c.up_lot-lot.ensures.is_the_part_above (energy_size lot) c.add.ensures.adds_a_lot_with_megawatts,
     )
 
 pub returns : goal.returns
-returns c = record { lists-the-up-lots = still-all c.loop-i.invariant.1 (map_end (up_lot c.args.n) c.args.spans.now c.loop-i.i c.loop-i-test.false) }
+returns c = record { lists_the_up_lots = still-all c.loop-i.invariant.1 (map_end (up_lot c.args.n) c.args.spans.now c.loop-i.i c.loop-i-test.false) }

@@ -12,15 +12,15 @@ pub stacked-requires : goal.stacked-requires
 stacked-requires c =
     let u = c.args.unit.now in
     let o = c.in-Some.offer in
-    let e = c.pairs.ensures.lends-the-pairs in
+    let e = c.pairs.ensures.lends_the_pairs in
     let t : summed (pairs_of o) ≡ u.figures.installed = sym (ap (offered_total u.figures.installed) c.in-Some.is) ∙ u.offered in
     record { few = omega (arith, ap length e, few_pairs o); small = omega (arith, ap summed e, t, u.small) }
 
 pub returns-in-Some : goal.returns-in-Some
 returns-in-Some c =
     let o = c.in-Some.offer in
-    let e = c.stacked.ensures.stacks-the-pairs ∙ ap stack c.pairs.ensures.lends-the-pairs in
+    let e = c.stacked.ensures.stacks_the_pairs ∙ ap stack c.pairs.ensures.lends_the_pairs in
     record {
-      stacks-the-offer = e ∙ ap (λ w. stack (offer_of w)) (sym c.in-Some.is);
-      prices-are-in-range = subst (All Priced) (sym e) (stacked_priced 1 0 (pairs_of o) (priced_all (pairs_of o) o.priced));
+      stacks_the_offer = e ∙ ap (λ w. stack (offer_of w)) (sym c.in-Some.is);
+      prices_are_in_range = subst (All Priced) (sym e) (stacked_priced 1 0 (pairs_of o) (priced_all (pairs_of o) o.priced));
     }

@@ -7,4 +7,4 @@ pub returns : goal.returns
 returns g c =
     let s = c.args.self.now in
     let all : c.loop-place.place ≡ s.count = omega arith in
-    record { leads-all = subst (λ n. Leads (g.R.TieRule.model c.args.rule.now) g.L.Lot.figures (queues g.L.Lot.figures s) n c.loop-place.best) all c.loop-place.invariant }
+    record { leads_all = subst (λ n. Leads (g.R.TieRule.model c.args.rule.now) g.L.Lot.figures (queues g.L.Lot.figures s) n c.loop-place.best) all c.loop-place.invariant }

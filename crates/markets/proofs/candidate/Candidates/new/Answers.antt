@@ -3,7 +3,7 @@ use Rattle.markets.specs.declared.candidate.Candidate.{Candidate}
 use Rattle.markets.proofs.Tables.{all_replicate}
 use Rattle.markets.proofs.candidate.Candidates.new.Goals as goal
 
-pub invariant-of-result : goal.invariant-of-result
-invariant-of-result g c =
-    let nobody : Candidate = record { figures = c.no-figures.result; eligible = 0; next = 0; count = 0 } in
+pub invariant_of-result : goal.invariant_of-result
+invariant_of-result g c =
+    let nobody : Candidate = record { figures = c.no_figures.result; eligible = 0; next = 0; count = 0 } in
     (omega arith, (refl, (refl, (∣ all_replicate (λ (u : Candidate). u.count ≤ 25) 32 nobody (omega arith) ∣₁, tt))))

@@ -26,6 +26,6 @@ returns g c =
     let inv = c.loop-i.invariant in
     let all : c.loop-i.i ≡ length new = omega arith in
     record {
-      writes-the-lots = inv.0 ∙ (ap (paste table start new) all ∙ paste_all table start new (length new) refl);
-      keeps-the-units = (inv.1, inv.2);
+      writes_the_lots = inv.0 ∙ (ap (paste table start new) all ∙ paste_all table start new (length new) refl);
+      keeps_the_units = (inv.1, inv.2);
     }

@@ -7,33 +7,33 @@ use Rattle.markets.proofs.Tables.{moved_on}
 use Rattle.markets.proofs.Turning.{goes_on, turn, none_waits}
 use Rattle.markets.proofs.candidate.Candidates.take_first.Goals as goal
 
-pub returns-in-default : goal.returns-in-default
-returns-in-default g c = record { takes-from-the-first-lot = none_waits g.L.Lot.figures c.args.self.now c.in-default.ensures.leads-all }
+pub returns-in_default : goal.returns-in_default
+returns-in_default g c = record { takes_from_the_first_lot = none_waits g.L.Lot.figures c.args.self.now c.in_default.ensures.leads_all }
 
-pub overflow-add-unit : goal.overflow-add-unit
-overflow-add-unit g c =
-    let u = c.unit-at-unit in
-    let h = goes_on (g.R.TieRule.model c.args.rule.now) g.L.Lot.figures c.args.self.now c.in-Some.first u.result c.in-Some.ensures.leads-all u.ensures.is-the-unit in
-    let few = u.ensures.has-few-lots in
+pub overflow_add-unit : goal.overflow_add-unit
+overflow_add-unit g c =
+    let u = c.unit_at-unit in
+    let h = goes_on (g.R.TieRule.model c.args.rule.now) g.L.Lot.figures c.args.self.now c.in-Some.first u.result c.in-Some.ensures.leads_all u.ensures.is_the_unit in
+    let few = u.ensures.has_few_lots in
     search rules
 
-pub invariant-of-self : goal.invariant-of-self
-invariant-of-self g c =
+pub invariant_of-self : goal.invariant_of-self
+invariant_of-self g c =
     let s = c.args.self.now in
-    let u = c.unit-at-unit in
-    let now = moved_on u.result c.part-of-part.result in
-    (s.within, (length-set s.units c.in-Some.first.place now ∙ s.all_units, (s.all_lots, (∥∥₁_map s.few (All-set (λ (w : Candidate). w.count ≤ 25) s.units c.in-Some.first.place now u.ensures.has-few-lots), tt))))
+    let u = c.unit_at-unit in
+    let now = moved_on u.result c.part_of-part.result in
+    (s.within, (length-set s.units c.in-Some.first.place now ∙ s.all_units, (s.all_lots, (∥∥₁_map s.few (All-set (λ (w : Candidate). w.count ≤ 25) s.units c.in-Some.first.place now u.ensures.has_few_lots), tt))))
 
 pub returns : goal.returns
 returns g c =
     let s = c.args.self.now in
-    let u = c.unit-at-unit in
+    let u = c.unit_at-unit in
     let f = c.in-Some.first in
-    let lead = c.in-Some.ensures.leads-all in
-    let k = c.part-of-part.result in
+    let lead = c.in-Some.ensures.leads_all in
+    let k = c.part_of-part.result in
     record {
-      takes-from-the-first-lot =
-          turn (g.R.TieRule.model c.args.rule.now) g.L.Lot.figures s f u.result lead u.ensures.is-the-unit _ c.args.unfilled k
+      takes_from_the_first_lot =
+          turn (g.R.TieRule.model c.args.rule.now) g.L.Lot.figures s f u.result lead u.ensures.is_the_unit _ c.args.unfilled k
           (take-set-lt s.count s.units f.place (moved_on u.result k) lead.below) refl
-          c.part-of-part.ensures.is-the-least;
+          c.part_of-part.ensures.is_the_least;
     }

@@ -6,6 +6,6 @@ pub returns : goal.returns
 returns g c =
     let s = c.args.self.now in
     record {
-      is-the-unit = at_place s.units s.count c.args.place _ c.requires (omega (arith, s.within, s.all_units));
-      has-few-lots = few_at s.units c.args.place _ (omega (arith, s.within, s.all_units)) s.few;
+      is_the_unit = at_place s.units s.count c.args.place _ c.requires (omega (arith, s.within, s.all_units));
+      has_few_lots = few_at s.units c.args.place _ (omega (arith, s.within, s.all_units)) s.few;
     }

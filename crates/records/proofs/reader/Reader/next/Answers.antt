@@ -10,25 +10,25 @@ within : (c : goal.In-Ok) → c.args.self.now.at + (4 + length c.in-Ok.frame.bod
 within c =
     let at = c.args.self.now.at in
     let src = c.args.self.now.src.now in
-    let e = rw take_rest at c.in-Ok.ensures.is-the-frame-in-front in
+    let e = rw take_rest at c.in-Ok.ensures.is_the_frame_in_front in
     omega (arith, frame-within at (drop at src) (frame_figures c.in-Ok.frame) e, length-drop at src)
 
-pub overflow-add-self-in-Ok : goal.overflow-add-self-in-Ok
-overflow-add-self-in-Ok c = let h = within c in search rules
+pub overflow_add-self-in-Ok : goal.overflow_add-self-in-Ok
+overflow_add-self-in-Ok c = let h = within c in search rules
 
-pub invariant-of-self : goal.invariant-of-self
-invariant-of-self c = (within c, tt)
+pub invariant_of-self : goal.invariant_of-self
+invariant_of-self c = (within c, tt)
 
 pub returns-in-Ok : goal.returns-in-Ok
 returns-in-Ok c =
     let at = c.args.self.now.at in
     let src = c.args.self.now.src.now in
-    let e = ap Some (rw take_rest at c.in-Ok.ensures.is-the-frame-in-front) ∙ next_there src at (omega arith) in
-    record { keeps-the-bytes = search rules; gives-the-frame-at-its-place = e; moves-past-the-frame = ap (place_after at) e }
+    let e = ap Some (rw take_rest at c.in-Ok.ensures.is_the_frame_in_front) ∙ next_there src at (omega arith) in
+    record { keeps_the_bytes = search rules; gives_the_frame_at_its_place = e; moves_past_the_frame = ap (place_after at) e }
 
 pub returns-in-Err : goal.returns-in-Err
 returns-in-Err c =
     let at = c.args.self.now.at in
     let src = c.args.self.now.src.now in
-    let e = ap Some (rw take_rest at c.in-Err.ensures.is-the-frame-in-front) ∙ next_there src at (omega arith) in
-    record { keeps-the-bytes = search rules; gives-the-frame-at-its-place = e; moves-past-the-frame = ap (place_after at) e }
+    let e = ap Some (rw take_rest at c.in-Err.ensures.is_the_frame_in_front) ∙ next_there src at (omega arith) in
+    record { keeps_the_bytes = search rules; gives_the_frame_at_its_place = e; moves_past_the_frame = ap (place_after at) e }

@@ -9,5 +9,5 @@ returns c =
     let a : 1 ≤ get_or body 2 0 = search rules in
     let b : get_or body 2 0 ≤ 5 = search rules in
     let n : 2 + length body ≡ 5 + 6 * get_or body 2 0 = search rules in
-    let ps = rw take_rest at c.pair-list.ensures.lists-every-pair in
-    record { is-what-the-bytes-ask = rw (ps, c.figure-at.ensures.is-the-word-there) (offer_whole body a b n) }
+    let ps = rw take_rest at c.pair_list.ensures.lists_every_pair in
+    record { is_what_the_bytes_ask = rw (ps, c.figure_at.ensures.is_the_word_there) (offer_whole body a b n) }

@@ -2,8 +2,8 @@ use Rattle.std.proofs.Common.{rules}
 use Rattle.units.proofs.Checking.{ranges_more, ranges_end}
 use Rattle.units.proofs.offer.acts.all_in_range.Goals as goal
 
-pub returns-then-not-in-range : goal.returns-then-not-in-range
-returns-then-not-in-range c = search (rules, ranges_more)
+pub returns-then-not-in_range : goal.returns-then-not-in_range
+returns-then-not-in_range c = search (rules, ranges_more)
 
 pub loop-p-preserved : goal.loop-p-preserved
 loop-p-preserved c = search (rules, ranges_more)

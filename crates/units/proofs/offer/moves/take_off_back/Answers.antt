@@ -1,4 +1,4 @@
-use Rattle.std.proofs.Common.{arith, rules}
+use Rattle.std.proofs.Common.{arith}
 use Rattle.units.proofs.Taking.{backing_none, backing_more, backing_all}
 use Rattle.units.proofs.offer.moves.take_off_back.Goals as goal
 
@@ -9,4 +9,4 @@ pub loop-i-preserved : goal.loop-i-preserved
 loop-i-preserved c = backing_more c.loop-i.invariant (omega arith) c.min-part.result c.min-part.ensures
 
 pub returns : goal.returns
-returns c = record { takes-off-from-the-back = backing_all c.loop-i.invariant (omega arith) }
+returns c = record { takes_off_from_the_back = backing_all c.loop-i.invariant (omega arith) }

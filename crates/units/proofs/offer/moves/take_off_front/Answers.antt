@@ -1,4 +1,4 @@
-use Rattle.std.proofs.Common.{◌≡◌, sym, ◌∙◌, arith, rules}
+use Rattle.std.proofs.Common.{sym, ◌∙◌, arith}
 use Rattle.units.proofs.Taking.{front_more, front_all}
 use Rattle.units.proofs.offer.moves.take_off_front.Goals as goal
 
@@ -6,4 +6,4 @@ pub loop-i-preserved : goal.loop-i-preserved
 loop-i-preserved c = front_more c.loop-i.pairs c.loop-i.i c.loop-i.left c.min-part.result (omega arith) c.min-part.ensures ∙ c.loop-i.invariant
 
 pub returns : goal.returns
-returns c = record { takes-off-from-the-front = sym (front_all c.loop-i.pairs c.loop-i.i c.loop-i.left (omega arith)) ∙ c.loop-i.invariant }
+returns c = record { takes_off_from_the_front = sym (front_all c.loop-i.pairs c.loop-i.i c.loop-i.left (omega arith)) ∙ c.loop-i.invariant }

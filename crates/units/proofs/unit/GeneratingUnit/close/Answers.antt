@@ -2,8 +2,8 @@ use Rattle.std.proofs.Common.{rules}
 use Rattle.units.proofs.Held.{offer_stays}
 use Rattle.units.proofs.unit.GeneratingUnit.close.Goals as goal
 
-pub returns-in-default-offer : goal.returns-in-default-offer
-returns-in-default-offer c = record {
-  refused-at-a-price-out-of-range = search rules;
-  only-a-missing-offer-is-made = offer_stays c.args.self.now c.args.price c.in-default-offer.field-0 c.in-default-offer.is;
+pub returns-in_default-offer : goal.returns-in_default-offer
+returns-in_default-offer c = record {
+  refused_at_a_price_out_of_range = search rules;
+  only_a_missing_offer_is_made = offer_stays c.args.self.now c.args.price c.in_default-offer.field-0 c.in_default-offer.is;
 }
