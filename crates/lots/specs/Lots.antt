@@ -1,5 +1,5 @@
 -- The lots of a unit: what lies above its notification, what lies below, and the runs of both.
-use Rattle.std.specs.Prelude.{ℕ, ◌-◌, min, max, Bool, List, [], ◌∷◌, map, reverse, ℤ, pos, ◌-ℤ◌, neg_ℤ, filter, nat_lt}
+use Rattle.std.specs.Prelude.{ℕ, ◌-◌, min, max, Bool, List, map, reverse, ℤ, pos, ◌-ℤ◌, neg_ℤ, filter, nat_lt}
 use Rattle.std.specs.List.{flat_map}
 use Rattle.units.specs.declared.side.Side.{Side}
 use Rattle.units.specs.declared.side.Side.TheVariants.{Up, Down, Band}

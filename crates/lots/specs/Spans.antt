@@ -1,5 +1,5 @@
 -- Where the pairs of an offer lie.
-use Rattle.std.specs.Prelude.{ℕ, ◌+◌, List, [], ◌∷◌, map, ℤ, ◌<ℤ◌}
+use Rattle.std.specs.Prelude.{ℕ, ◌+◌, List, [], ◌∷◌, map, ◌<ℤ◌}
 use Rattle.units.specs.declared.pair.Pair.{Pair}
 use Rattle.lots.specs.declared.span.Span.{Span}
 use Rattle.lots.specs.Sums.{Pairwise}

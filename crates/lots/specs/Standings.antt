@@ -1,5 +1,5 @@
 -- What stands of the lots of a unit, and where that leaves the unit.
-use Rattle.std.specs.Prelude.{◌≡◌, ℕ, ◌+◌, ◌-◌, ◌%◌, ◌≤◌, min, true, List, [], ◌∷◌, length}
+use Rattle.std.specs.Prelude.{◌≡◌, ℕ, ◌+◌, ◌-◌, ◌%◌, ◌≤◌, min, true, length}
 use Rattle.std.specs.List.{AllByRecursion as All}
 use Rattle.units.specs.declared.figures.Figures.{Figures}
 use Rattle.units.specs.declared.side.Side.{Side}

@@ -10,7 +10,7 @@ use Rattle.units.specs.Units.{UnitState}
 use Rattle.lots.specs.declared.span.Span.{Span}
 use Rattle.lots.specs.Sums.{sum_of, Pairwise}
 use Rattle.lots.specs.Spans.{stack, Rising}
-use Rattle.lots.specs.Lots.{LotFigures, up_lot, down_lot, band_lot, lots}
+use Rattle.lots.specs.Lots.{up_lot, down_lot, band_lot, lots}
 
 -- the megawatts that a side offers: installed power less notification, the notification, or the lesser of the two
 abbrev pub offered : Side → ℕ → ℕ → ℕ

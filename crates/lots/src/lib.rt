@@ -1,4 +1,6 @@
 // The lots of a unit, and what stands of them.
+#![tactic(auto)]
+
 pub mod list;
 pub mod lot;
 pub mod span;

@@ -1,7 +1,5 @@
 -- What is chosen, and what may be.
 use Rattle.std.specs.Prelude.{◌≡◌, ℕ, ◌+◌, ◌-◌, ◌≤◌, min, Bool, cond, List, [], ◌∷◌, ℤ, pos, ◌+ℤ◌, ◌*ℤ◌, filter, ◌==◌, int_le, nat_lt}
-use Rattle.std.specs.List.{AllByRecursion as All}
-use Rattle.lots.specs.Sums.{sum_of}
 use Rattle.markets.specs.Remainders.{Remaining, unit}
 
 -- ---- taking in order

@@ -5,7 +5,7 @@ use Rattle.std.specs.List.Sorted.{IsPermutation}
 use Rattle.units.specs.declared.figures.Figures.{Figures}
 use Rattle.lots.specs.Sums.{sum_of, Pairwise}
 use Rattle.markets.specs.Rules.{RuleModel}
-use Rattle.markets.specs.Remainders.{Remaining, unit, left_of, In, Orderly, UnitsOf}
+use Rattle.markets.specs.Remainders.{Remaining, left_of, In, Orderly, UnitsOf}
 use Rattle.markets.specs.Merit.{before, merit}
 use Rattle.markets.specs.Choices.{takes, total, cost_of, Permitted, FullFronts, choice}
 

@@ -4,7 +4,6 @@ use Rattle.std.proofs.Common.{arith}
 use Rattle.std.proofs.lemmas.Bool.{cond_both}
 use Rattle.units.specs.declared.side.Side.TheVariants.{Up, Down, Band}
 use Rattle.units.specs.Units.{UnitState}
-use Rattle.lots.specs.declared.standing.Standing.{Standing}
 use Rattle.lots.specs.Standings.{floor, Between, Placed, Stands, stood, left, standing, with_more}
 use Rattle.lots.proofs.Placing.{left_is}
 use Rattle.markets.specs.Models.{Asked}

@@ -1,5 +1,5 @@
 -- Lots with what is left of them, as choosing sees them.
-use Rattle.std.specs.Prelude.{◌≡◌, ℕ, ◌≤◌, cond, ◌⊎◌, List, [], ◌∷◌, ℤ, ◌==◌, ◌≢◌}
+use Rattle.std.specs.Prelude.{◌≡◌, ℕ, cond, ◌⊎◌, List, [], ◌∷◌, ℤ, ◌==◌, ◌≢◌}
 use Rattle.std.specs.List.{AllByRecursion as All}
 use Rattle.units.specs.declared.figures.Figures.{Figures}
 use Rattle.lots.specs.Sums.{sum_of, Pairwise}

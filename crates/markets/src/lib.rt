@@ -1,4 +1,6 @@
 // Markets, tie rules, and choosing in merit order.
+#![tactic(auto)]
+
 pub mod candidate;
 pub mod choice;
 pub mod choose;

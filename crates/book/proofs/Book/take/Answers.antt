@@ -18,7 +18,7 @@ invariant_of-self g c =
     let r = refused-rows (g.M.Market.model c.args.market.now) (g.R.TieRule.model c.args.rule.now) c.args.carried c.args.demand (ledger_of b) (rows_of c.add.new.self) c.requires.allowed
     b.reached g.L.Lot.figures _ c.lots.result.now c.lots.ensures.lends_the_chosen_lots
     (c.choose_by-choice.ensures.takes_what_a_selection_takes_after_closing c.requires.allowed.closed c.requires.serves) e.tells_whether_there_is_room e.adds_a_row_for_each_or_changes_nothing in
-    (r.reached, tt)
+    r.reached
 
 pub returns-in_default : goal.returns-in_default
 returns-in_default g c =
@@ -36,7 +36,7 @@ invariant_of-self-2 g c =
     let r = made-rows (g.M.Market.model c.args.market.now) (g.R.TieRule.model c.args.rule.now) c.args.carried c.args.demand (ledger_of b) (rows_of c.add.new.self) c.requires.allowed
     b.reached g.L.Lot.figures _ c.lots.result.now c.lots.ensures.lends_the_chosen_lots
     (c.choose_by-choice.ensures.takes_what_a_selection_takes_after_closing c.requires.allowed.closed c.requires.serves) e.tells_whether_there_is_room e.adds_a_row_for_each_or_changes_nothing in
-    (r.reached, tt)
+    r.reached
 
 pub from-requires : goal.from-requires
 from-requires g c =

@@ -11,7 +11,7 @@ invariant_of-self g c =
     let s = c.args.self.now in
     let new = entered c.args.figures c.args.eligible (length c.args.lots.now) in
     let fits = room s.count (length c.args.lots.now) c.if-not-has_room.ensures.tells_whether_there_is_room in
-    (omega arith, (length-set s.units s.count new ∙ s.all_units, (s.all_lots, (∥∥₁_map s.few (All-set (λ (w : Candidate). w.count ≤ 25) s.units s.count new fits.1), tt))))
+    record { within = omega arith; all_units = length-set s.units s.count new ∙ s.all_units; all_lots = s.all_lots; few = ∥∥₁_map s.few (All-set (λ (w : Candidate). w.count ≤ 25) s.units s.count new fits.1) }
 
 pub returns : goal.returns
 returns g c =

@@ -6,4 +6,4 @@ use Rattle.markets.proofs.candidate.Candidates.new.Goals as goal
 pub invariant_of-result : goal.invariant_of-result
 invariant_of-result g c =
     let nobody : Candidate = record { figures = c.no_figures.result; eligible = 0; next = 0; count = 0 } in
-    (omega arith, (refl, (refl, (∣ all_replicate (λ (u : Candidate). u.count ≤ 25) 32 nobody (omega arith) ∣₁, tt))))
+    record { within = omega arith; all_units = refl; all_lots = refl; few = ∣ all_replicate (λ (u : Candidate). u.count ≤ 25) 32 nobody (omega arith) ∣₁ }

@@ -22,7 +22,12 @@ invariant_of-self g c =
     let s = c.args.self.now in
     let u = c.unit_at-unit in
     let now = moved_on u.result c.part_of-part.result in
-    (s.within, (length-set s.units c.in-Some.first.place now ∙ s.all_units, (s.all_lots, (∥∥₁_map s.few (All-set (λ (w : Candidate). w.count ≤ 25) s.units c.in-Some.first.place now u.ensures.has_few_lots), tt))))
+    record {
+      within = s.within;
+      all_units = length-set s.units c.in-Some.first.place now ∙ s.all_units;
+      all_lots = s.all_lots;
+      few = ∥∥₁_map s.few (All-set (λ (w : Candidate). w.count ≤ 25) s.units c.in-Some.first.place now u.ensures.has_few_lots);
+    }
 
 pub returns : goal.returns
 returns g c =
