@@ -1,5 +1,5 @@
 -- The open rows of a selection, added up one after the other.
-use Rattle.std.proofs.Common.{◌≡◌, ℕ, zero, suc, ◌+◌, ◌*◌, ◌^◌, ◌<◌, ◌≤◌, Bool, true, false, cond, ◌||◌, List, [], ◌∷◌, length, get_or, drop, ℤ, pos, negsuc, ◌+ℤ◌, ◌*ℤ◌, neg_ℤ, ◌≤ℤ◌, sym, refl, ap, ◌∙◌, mul-le-mul, arith, w32, w64, SFits, to_z, of_z}
+use Rattle.std.proofs.Common.{◌≡◌, ℕ, zero, suc, ◌+◌, ◌*◌, ◌^◌, ◌<◌, ◌≤◌, Bool, true, false, cond, ◌||◌, List, ◌∷◌, length, get_or, drop, ℤ, pos, negsuc, ◌+ℤ◌, ◌*ℤ◌, neg_ℤ, ◌≤ℤ◌, sym, refl, ap, ◌∙◌, mul-le-mul, arith, w32, w64, SFits, to_z, of_z}
 use borrow.Author.Differences.{up, down}
 use Rattle.std.proofs.lemmas.List.{drop_more, drop_all}
 use Rattle.std.proofs.lemmas.Int.{ints}
@@ -87,11 +87,11 @@ or_false true = refl
 or_false false = refl
 
 module _ {n : ℕ} {rows : List Row} {i : ℕ} {some : Bool} {megawatts : ℕ} {cost : ℤ} (a : AddingUp n rows i some megawatts cost) (h : length rows ≤ i) where
-  pub some-added : some ≡ some_rows (open_rows n rows)
-  some-added = sym (or_false some) ∙ (ap (λ rs. some || some_rows (open_rows n rs)) (sym (drop_all i rows h)) ∙ a.some_in_all)
+  pub some_added : some ≡ some_rows (open_rows n rows)
+  some_added = sym (or_false some) ∙ (ap (λ rs. some || some_rows (open_rows n rs)) (sym (drop_all i rows h)) ∙ a.some_in_all)
 
-  pub megawatts-added : megawatts ≡ megawatts_of (open_rows n rows)
-  megawatts-added = omega (arith, ap (λ rs. megawatts_of (open_rows n rs)) (drop_all i rows h), a.megawatts_in_all)
+  pub megawatts_added : megawatts ≡ megawatts_of (open_rows n rows)
+  megawatts_added = omega (arith, ap (λ rs. megawatts_of (open_rows n rs)) (drop_all i rows h), a.megawatts_in_all)
 
   pub cost_added : cost ≡ cost_of (open_rows n rows)
   cost_added = let e : cost_of (open_rows n (drop i rows)) ≡ pos 0 = ap (λ rs. cost_of (open_rows n rs)) (drop_all i rows h) in omega (arith, ints, e, a.cost_in_all)

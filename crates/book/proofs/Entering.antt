@@ -1,9 +1,9 @@
 -- The units of a book as the candidates of a selection.
-use Rattle.std.proofs.Common.{◌≡◌, ℕ, ◌+◌, ◌-◌, ◌*◌, ◌<◌, ◌≤◌, List, [], ◌∷◌, ◌++◌, map, reverse, length, get_or, take, sym, refl, ap, ◌∙◌, subst, ap₂, arith}
+use Rattle.std.proofs.Common.{◌≡◌, ℕ, ◌+◌, ◌-◌, ◌<◌, ◌≤◌, List, [], ◌∷◌, ◌++◌, map, reverse, length, get_or, take, sym, refl, ap, ◌∙◌, subst, ap₂, arith}
 use mathlib.Core.List.{map-append}
 use Rattle.std.specs.List.{AllByRecursion as All}
 use Rattle.std.proofs.ByRecursion.{All-weaker, All-map, all_kept_by}
-use Rattle.std.proofs.lemmas.List.{take_more, length-take, length-map, get_or-map}
+use Rattle.std.proofs.lemmas.List.{take_more, length-take, get_or-map}
 use Rattle.units.specs.declared.pair.Pair.{Pair}
 use Rattle.units.specs.declared.side.Side.{Side}
 use Rattle.units.specs.declared.side.Side.TheVariants.{Up, Down, Band}
@@ -17,9 +17,9 @@ use Rattle.markets.specs.declared.candidate.Candidate.{Candidate}
 use Rattle.markets.specs.declared.candidate.Candidates.{Candidates}
 use Rattle.markets.specs.Models.{MarketModel}
 use Rattle.markets.specs.Remainders.{Remaining}
-use Rattle.markets.specs.Candidates.{remaining, entered, units_in, queues}
+use Rattle.markets.specs.Candidates.{remaining, units_in, queues}
 use Rattle.ledger.specs.declared.row.Row.{Row}
-use Rattle.ledger.specs.Selections.{number, standing_of, remaining_lot}
+use Rattle.ledger.specs.Selections.{number, remaining_lot}
 use Rattle.book.specs.declared.standings.StandingTable.{StandingTable}
 use Rattle.book.specs.declared.tables.UnitEntry.{UnitEntry}
 use Rattle.book.specs.Tables.{unit_of}
@@ -52,18 +52,18 @@ small_lots side u h = all_kept_by some Small (parts side u.notification (stack u
 
 -- ---- the lots of one unit
 module _ {L : Type 0} (meant : L → LotFigures) (t : StandingTable) (p : ℕ) (rows : List Row) (u : UnitState) (s : StandsAt t p (number u) rows) where
-  abbrev with-standing : L → ℕ → Remaining
-  with-standing lot stands = record { figures = u.figures; up = (meant lot).up; down = (meant lot).down; cost = (meant lot).cost; rest = (meant lot).size - stands }
+  abbrev with_standing : L → ℕ → Remaining
+  with_standing lot stands = record { figures = u.figures; up = (meant lot).up; down = (meant lot).down; cost = (meant lot).cost; rest = (meant lot).size - stands }
 
   one_left : (lot : L) → Small (meant lot) → remaining meant u.figures (left_at meant t p lot) ≡ remaining_lot rows u (meant lot)
-  one_left lot h = ap (with-standing lot) (s.lots (meant lot).up (meant lot).down h.0 h.1)
+  one_left lot h = ap (with_standing lot) (s.lots (meant lot).up (meant lot).down h.0 h.1)
 
   all_left : (ls : List L) → All Small (map meant ls) → map (remaining meant u.figures) (map (left_at meant t p) ls) ≡ map (remaining_lot rows u) (map meant ls)
   all_left [] h = refl
   all_left (l ∷ ls) h = ap₂ ◌∷◌ (one_left l h.0) (all_left ls h.1)
 
-  pub lots-left : (side : Side) (ls : List L) → map meant ls ≡ lots side u → length u.offer ≤ 5 → map (remaining meant u.figures) (map (left_at meant t p) ls) ≡ queue_of side rows u
-  lots-left side ls e few = all_left ls (subst (All Small) (sym e) (small_lots side u few)) ∙ ap (map (remaining_lot rows u)) e
+  pub lots_left : (side : Side) (ls : List L) → map meant ls ≡ lots side u → length u.offer ≤ 5 → map (remaining meant u.figures) (map (left_at meant t p) ls) ≡ queue_of side rows u
+  lots_left side ls e few = all_left ls (subst (All Small) (sym e) (small_lots side u few)) ∙ ap (map (remaining_lot rows u)) e
 
 -- ---- one unit more
 map_more : {X Y : Type 0} (f : X → Y) (xs : List X) (i : ℕ) (d : X) → i < length xs → map f (take (i + 1) xs) ≡ map f (take i xs) ++ (f (get_or xs i d) ∷ [])

@@ -12,17 +12,17 @@ pub count_units : (t : UnitTable) → length (units_of t) ≡ t.count
 count_units t = length-map (take t.count t.entries) unit_of ∙ length-take-le t.count t.entries (omega arith)
 
 module _ (es : List UnitEntry) (n : ℕ) (fits : n ≤ length es) where
-  length-listed : length (map unit_of (take n es)) ≡ n
-  length-listed = length-map (take n es) unit_of ∙ length-take-le n es fits
+  length_listed : length (map unit_of (take n es)) ≡ n
+  length_listed = length-map (take n es) unit_of ∙ length-take-le n es fits
 
   -- the unit at a place
-  pub unit-at : (i : ℕ) (e : UnitEntry) (d : UnitState) → i < n → e ≡ get_or es i e → get_or (map unit_of (take n es)) i d ≡ unit_of e
-  unit-at i e d h is =
+  pub unit_at : (i : ℕ) (e : UnitEntry) (d : UnitState) → i < n → e ≡ get_or es i e → get_or (map unit_of (take n es)) i d ≡ unit_of e
+  unit_at i e d h is =
       let l = length-take-le n es fits in
       get_or-map unit_of (take n es) i e d (omega arith) ∙ ap unit_of (get_or-take n es i e h ∙ sym is)
 
-  pub put-at : (i : ℕ) (e : UnitEntry) → i < n → map unit_of (take n (set es i e)) ≡ set (map unit_of (take n es)) i (unit_of e)
-  put-at i e h = ap (map unit_of) (take-set-lt n es i e h) ∙ map-set unit_of (take n es) i e
+  pub put_at : (i : ℕ) (e : UnitEntry) → i < n → map unit_of (take n (set es i e)) ≡ set (map unit_of (take n es)) i (unit_of e)
+  put_at i e h = ap (map unit_of) (take-set-lt n es i e h) ∙ map-set unit_of (take n es) i e
 
 pub push_at : (es : List UnitEntry) (n : ℕ) (e : UnitEntry) → n < length es → map unit_of (take (n + 1) (set es n e)) ≡ map unit_of (take n es) ++ unit_of e ∷ []
 push_at es n e h = ap (map unit_of) (take_more_set es n e h) ∙ map_push unit_of (take n es) e
@@ -39,8 +39,8 @@ pub changing_more : {f : UnitState → UnitState} {us : List UnitState} {n : ℕ
     (e e' : UnitEntry) → e ≡ get_or t.entries i e → t'.entries ≡ set t.entries i e' → t'.count ≡ t.count → unit_of e' ≡ f (unit_of e) → Changing f us n t' (i + 1)
 changing_more {f} {us} {n} {t} {t'} {i} c len h e e' is set_is count-is made =
     let k = c.counted in
-    let u = unit-at t.entries t.count (omega arith) i e (unit_of e) (omega arith) is in
-    let p = put-at t.entries t.count (omega arith) i e' (omega arith) in
+    let u = unit_at t.entries t.count (omega arith) i e (unit_of e) (omega arith) is in
+    let p = put_at t.entries t.count (omega arith) i e' (omega arith) in
     let m = map_over_more f us (units_of t) i (unit_of e) (omega arith) c.holds (sym u) in
     record {
       counted = count-is ∙ c.counted;

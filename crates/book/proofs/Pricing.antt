@@ -43,8 +43,8 @@ module _ (F : List ℤ → Option ℤ) (f : Option ℤ → ℤ → Option ℤ) (
       let more : rows_of_market m (take (i + 1) rows) ≡ rows_of_market m (take i rows) ++ r ∷ [] = filter_more counts rows i d h ∙ ap (λ rs. rows_of_market m (take i rows) ++ rs) t in
       ap (f (F (prices i))) is ∙ sym (ap (λ rs. F (map price rs)) more ∙ (ap F (map_push price (rows_of_market m (take i rows)) r) ∙ push (prices i) (price r)))
 
-  pub row-counts-not : (market_number (get_or rows i d).market ≡ market_number m → ⊥) → F (prices i) ≡ F (prices (i + 1))
-  row-counts-not ne =
+  pub row_counts_not : (market_number (get_or rows i d).market ≡ market_number m → ⊥) → F (prices i) ≡ F (prices (i + 1))
+  row_counts_not ne =
       let r = get_or rows i d in
       let t = cond-false (counts r) (r ∷ []) [] (ne_eqb _ _ ne) in
       let more = filter_more counts rows i d h ∙ (ap (λ rs. rows_of_market m (take i rows) ++ rs) t ∙ append-nil (rows_of_market m (take i rows))) in

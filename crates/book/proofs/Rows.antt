@@ -34,8 +34,8 @@ pub record Added {X : Type 0} (f : X → Row) (old : List Row) (xs : List X) (i 
   pub are : rows ≡ old ++ map f (take i xs)
 
 module _ {X : Type 0} {f : X → Row} {old : List Row} {xs : List X} {i : ℕ} {rows : List Row} (a : Added f old xs i rows) where
-  pub length-added : i ≤ length xs → length rows ≡ length old + i
-  length-added le =
+  pub length_added : i ≤ length xs → length rows ≡ length old + i
+  length_added le =
       ap length a.are ∙ (length-append old (map f (take i xs)) ∙ ap (λ n. length old + n) (length-map (take i xs) f ∙ length-take-le i xs le))
 
   pub added_more : (x : X) (r : Row) (next : List Row) → i < length xs → x ≡ get_or xs i x → r ≡ f x → next ≡ rows ++ r ∷ [] → Added f old xs (i + 1) next
@@ -43,8 +43,8 @@ module _ {X : Type 0} {f : X → Row} {old : List Row} {xs : List X} {i : ℕ} {
       let more : map f (take (i + 1) xs) ≡ map f (take i xs) ++ f x ∷ [] = map_more f xs i x lt ∙ ap (λ y. map f (take i xs) ++ f y ∷ []) (sym is) in
       record { are = rw (next-is, row_is, a.are, more) (append_assoc old (map f (take i xs)) (f x ∷ [])) }
 
-  pub added-all : length xs ≤ i → rows ≡ old ++ map f xs
-  added-all le = a.are ∙ ap (λ ys. old ++ map f ys) (take_all i xs le)
+  pub added_all : length xs ≤ i → rows ≡ old ++ map f xs
+  added_all le = a.are ∙ ap (λ ys. old ++ map f ys) (take_all i xs le)
 
 pub map_twice : {X Y Z : Type 0} (f : X → Y) (h : Y → Z) (xs : List X) → map (λ x. h (f x)) xs ≡ map h (map f xs)
 map_twice f h [] = refl

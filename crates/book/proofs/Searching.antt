@@ -1,5 +1,5 @@
 -- The loops that look for a unit, and for its rows.
-use Rattle.std.proofs.Common.{◌≡◌, ℕ, ◌+◌, ◌<◌, ◌≤◌, Bool, true, false, cond, ◌||◌, eqb, List, [], ◌∷◌, ◌++◌, length, get_or, take, drop, set, pos, Some, None, sym, refl, ap, ◌∙◌, arith}
+use Rattle.std.proofs.Common.{◌≡◌, ℕ, ◌+◌, ◌<◌, ◌≤◌, true, false, ◌||◌, eqb, List, [], ◌∷◌, ◌++◌, length, get_or, take, drop, set, pos, None, sym, refl, ap, ◌∙◌, arith}
 use Rattle.std.proofs.lemmas.List.{append_assoc, drop_more, drop_all, take_more, length-take-le, set_at, take-append-drop}
 use Rattle.std.proofs.lemmas.Bool.{eq-eqb, ne_eqb}
 use Rattle.units.specs.declared.side.MarketNumber.TheVariants.{Band}
@@ -21,8 +21,8 @@ module _ {n : ℕ} {us : List UnitState} {i : ℕ} (s : Searching n us i) (h : i
   front : drop i us ≡ u ∷ drop (i + 1) us
   front = drop_more us i u h ∙ ap (λ v. v ∷ drop (i + 1) us) is
 
-  pub searching-more : (u.figures.number ≡ n → ⊥) → Searching n us (i + 1)
-  searching-more ne =
+  pub searching_more : (u.figures.number ≡ n → ⊥) → Searching n us (i + 1)
+  searching_more ne =
       let t : eqb u.figures.number n ≡ false = ne_eqb u.figures.number n ne in
       let m : take (i + 1) us ≡ take i us ++ u ∷ [] = take_more us i u h ∙ ap (λ v. take i us ++ v ∷ []) is in
       record {
@@ -31,8 +31,8 @@ module _ {n : ℕ} {us : List UnitState} {i : ℕ} (s : Searching n us i) (h : i
             s.changes f ∙ (ap (λ vs. take i us ++ changed n f vs) front ∙ rw (t, m) (sym (append_assoc (take i us) (u ∷ []) (changed n f (drop (i + 1) us)))));
       }
 
-  pub searching-found : u.figures.number ≡ n → FoundAt n us i u
-  searching-found e =
+  pub searching_found : u.figures.number ≡ n → FoundAt n us i u
+  searching_found e =
       let t : eqb u.figures.number n ≡ true = eq-eqb u.figures.number n e in
       record {
         is_named = s.named ∙ (ap (unit_named n) front ∙ rw t refl);

@@ -1,9 +1,9 @@
 -- What a selection leaves of the table of refusals, and the rows that it adds.
-use Rattle.std.proofs.Common.{◌≡◌, ℕ, ◌+◌, ◌<◌, ◌≤◌, Bool, true, false, cond, eqb, ltb, leb, List, [], ◌∷◌, ◌++◌, map, length, drop, Some, sym, refl, ap, ◌∙◌, subst, arith}
+use Rattle.std.proofs.Common.{◌≡◌, ℕ, ◌+◌, ◌<◌, ◌≤◌, Bool, true, false, cond, eqb, leb, List, [], ◌∷◌, ◌++◌, map, length, drop, Some, sym, refl, ap, ◌∙◌, arith}
 use lib.Seq.{drop-append_seam}
 use Rattle.std.proofs.ByRecursion.{All-drop}
 use Rattle.std.proofs.lemmas.List.{length-map, length-drop}
-use Rattle.std.proofs.lemmas.Bool.{cond-true, cond-false, eq-eqb, lt-ltb, le-ltb, leb-true, leb-false, not_from_true}
+use Rattle.std.proofs.lemmas.Bool.{cond-true, cond-false, eq-eqb, lt-ltb, le-ltb, leb-true, leb-false}
 use Rattle.units.specs.declared.side.MarketNumber.{MarketNumber}
 use Rattle.units.specs.declared.side.MarketNumber.TheVariants.{Band, FastUp, FastDown, SlowUp, SlowDown}
 use Rattle.units.specs.Sides.{market_number, market_numbered}
@@ -18,7 +18,7 @@ use Rattle.ledger.specs.declared.slip.SlipFigures.{SlipFigures}
 use Rattle.ledger.specs.Ledger.{Ledger, with_rows}
 use Rattle.ledger.specs.Selecting.{selection, row_for, new_rows, slip_of, with_selection}
 use Rattle.ledger.specs.Settling.{open_rows}
-use Rattle.ledger.specs.Calls.{Answer, slip, refused, selecting, select_lines, by_table, selected, step}
+use Rattle.ledger.specs.Calls.{Answer, slip, refused, selecting, step}
 use Rattle.ledger.specs.Reach.{Reachable}
 use Rattle.ledger.proofs.Reaching.{leads_on}
 use Rattle.ledger.proofs.Histories.{invariant_of_every_history}
@@ -37,8 +37,8 @@ own_number SlowDown = refl
 
 module _ (m : MarketModel) (t : RuleModel) (k : MarketNumber) (d : ℕ) (l : Ledger) where
   -- where no line before the last applies, the step is by the last
-  pub step-taken : Allowed m k d l → (n : ℕ) → market_numbered n ≡ Some k → step l (selecting m t n d) ≡ taken m t k d l
-  step-taken a n e =
+  pub step_taken : Allowed m k d l → (n : ℕ) → market_numbered n ≡ Some k → step l (selecting m t n d) ≡ taken m t k d l
+  step_taken a n e =
       rw e (rw (a.in_range, a.one_side, a.closed, a.may_be_asked, a.some_eligible, a.number_left))
 
   -- more rows are needed than are free
@@ -49,16 +49,16 @@ module _ (m : MarketModel) (t : RuleModel) (k : MarketNumber) (d : ℕ) (l : Led
   taken_made h = cond-false _ _ _ (le-ltb 512 (length l.rows + length (selection m t d l)) h)
 
   -- a ledger that such a selection leads to
-  taken-reached : Allowed m k d l → Reachable l → (l' : Ledger) → l' ≡ (taken m t k d l).0 → Reachable l'
-  taken-reached a h l' e = leads_on l l' (selecting m t (market_number k) d) h (e ∙ sym (ap (λ (x : Ledger × Answer). x.0) (step-taken a (market_number k) (own_number k))))
+  taken_reached : Allowed m k d l → Reachable l → (l' : Ledger) → l' ≡ (taken m t k d l).0 → Reachable l'
+  taken_reached a h l' e = leads_on l l' (selecting m t (market_number k) d) h (e ∙ sym (ap (λ (x : Ledger × Answer). x.0) (step_taken a (market_number k) (own_number k))))
 
   -- the rows that are added are open, and of the selection
-  open-new : (n : ℕ) (ts : List Taken) → open_rows n (map (row_for n k) ts) ≡ map (row_for n k) ts
-  open-new n [] = refl
-  open-new n (x ∷ ts) = cond-true (eqb n n) _ _ (eq-eqb n n refl) ∙ ap (λ rs. row_for n k x ∷ rs) (open-new n ts)
+  open_new : (n : ℕ) (ts : List Taken) → open_rows n (map (row_for n k) ts) ≡ map (row_for n k) ts
+  open_new n [] = refl
+  open_new n (x ∷ ts) = cond-true (eqb n n) _ _ (eq-eqb n n refl) ∙ ap (λ rs. row_for n k x ∷ rs) (open_new n ts)
 
-  new-are-open : open_rows (l.given + 1) (new_rows m t k d l) ≡ new_rows m t k d l
-  new-are-open = open-new (l.given + 1) (selection m t d l)
+  new_are_open : open_rows (l.given + 1) (new_rows m t k d l) ≡ new_rows m t k d l
+  new_are_open = open_new (l.given + 1) (selection m t d l)
 
 -- ---- a row is added for each of the lots that the code has chosen, or none
 module _ (m : MarketModel) (t : RuleModel) (k : MarketNumber) (d : ℕ) (l : Ledger) {L : Type 0} (meant : L → LotFigures) (chosen : List (Chosen L))
@@ -73,8 +73,8 @@ module _ (m : MarketModel) (t : RuleModel) (k : MarketNumber) (d : ℕ) (l : Led
   none_taken e = taken_none m t k d l (omega (arith, many, leb-false (length l.rows + length chosen) 512 (sym tells ∙ e)))
 
   -- room
-  all-taken : fits ≡ true → taken m t k d l ≡ (with_selection (new_rows m t k d l) l, slip (slip_of (l.given + 1) (new_rows m t k d l)))
-  all-taken e = taken_made m t k d l (omega (arith, many, leb-true (length l.rows + length chosen) 512 (sym tells ∙ e)))
+  all_taken : fits ≡ true → taken m t k d l ≡ (with_selection (new_rows m t k d l) l, slip (slip_of (l.given + 1) (new_rows m t k d l)))
+  all_taken e = taken_made m t k d l (omega (arith, many, leb-true (length l.rows + length chosen) 512 (sym tells ∙ e)))
 
   rows_grow : fits ≡ true → rows ≡ l.rows ++ new_rows m t k d l
   rows_grow e =
@@ -82,18 +82,18 @@ module _ (m : MarketModel) (t : RuleModel) (k : MarketNumber) (d : ℕ) (l : Led
 
 -- ---- what the code knows when the rows are added, or not
 module _ (m : MarketModel) (t : RuleModel) (k : MarketNumber) (d : ℕ) (l : Ledger) (rows : List Row) where
-  pub record Refused-rows : Type 0 where
+  pub record RefusedRows : Type 0 where
     pub answer : refused 15 ≡ (taken m t k d l).1
     pub becomes : with_rows rows l ≡ (taken m t k d l).0
     pub reached : Reachable (with_rows rows l)
 
-  abbrev pub after-rows : Ledger
-  after-rows = record { closed = l.closed; units = l.units; rows = rows; given = l.given + 1 }
+  abbrev pub after_rows : Ledger
+  after_rows = record { closed = l.closed; units = l.units; rows = rows; given = l.given + 1 }
 
-  pub record Made-rows : Type 0 where
+  pub record MadeRows : Type 0 where
     pub answer : (s : SlipFigures) → s ≡ slip_of (l.given + 1) (open_rows (l.given + 1) (drop (length l.rows) rows)) → slip s ≡ (taken m t k d l).1
-    pub becomes : after-rows ≡ (taken m t k d l).0
-    pub reached : Reachable after-rows
+    pub becomes : after_rows ≡ (taken m t k d l).0
+    pub reached : Reachable after_rows
     pub few : length (drop (length l.rows) rows) ≤ 512
     pub small : SmallRows (drop (length l.rows) rows)
 
@@ -102,25 +102,25 @@ module _ (m : MarketModel) (t : RuleModel) (k : MarketNumber) (d : ℕ) (l : Led
     mapped : map (commitment_in meant) lots ≡ map commitment (selection m t d l)
     mapped = ap (map (commitment_in meant)) same ∙ commits
 
-    pub refused-rows : false ≡ leb (length l.rows + length lots) 512 → rows ≡ l.rows → Refused-rows
-    refused-rows tells stay =
+    pub refused_rows : false ≡ leb (length l.rows + length lots) 512 → rows ≡ l.rows → RefusedRows
+    refused_rows tells stay =
         let full = none_taken m t k d l meant lots mapped false rows tells stay refl in
         let is : with_rows rows l ≡ (taken m t k d l).0 = ap (λ rs. with_rows rs l) stay ∙ sym (ap (λ (x : Ledger × Answer). x.0) full) in
-        record { answer = sym (ap (λ (x : Ledger × Answer). x.1) full); becomes = is; reached = taken-reached m t k d l allowed h (with_rows rows l) is }
+        record { answer = sym (ap (λ (x : Ledger × Answer). x.1) full); becomes = is; reached = taken_reached m t k d l allowed h (with_rows rows l) is }
 
-    pub made-rows : true ≡ leb (length l.rows + length lots) 512 → rows ≡ l.rows ++ map (row_by (l.given + 1) k) (map (commitment_in meant) lots) → Made-rows
-    made-rows tells adds =
+    pub made_rows : true ≡ leb (length l.rows + length lots) 512 → rows ≡ l.rows ++ map (row_by (l.given + 1) k) (map (commitment_in meant) lots) → MadeRows
+    made_rows tells adds =
         let new = new_rows m t k d l in
-        let made = all-taken m t k d l meant lots mapped true rows tells adds refl in
+        let made = all_taken m t k d l meant lots mapped true rows tells adds refl in
         let grown = rows_grow m t k d l meant lots mapped true rows tells adds refl in
-        let is : after-rows ≡ (taken m t k d l).0 = (λ i. record { closed = l.closed; units = l.units; rows = grown i; given = l.given + 1 }) ∙ sym (ap (λ (x : Ledger × Answer). x.0) made) in
-        let r = taken-reached m t k d l allowed h after-rows is in
-        let i = invariant_of_every_history after-rows r in
+        let is : after_rows ≡ (taken m t k d l).0 = (λ i. record { closed = l.closed; units = l.units; rows = grown i; given = l.given + 1 }) ∙ sym (ap (λ (x : Ledger × Answer). x.0) made) in
+        let r = taken_reached m t k d l allowed h after_rows is in
+        let i = invariant_of_every_history after_rows r in
         let part : drop (length l.rows) rows ≡ new = ap (drop (length l.rows)) grown ∙ drop-append_seam l.rows new in
         record {
-          answer = λ s e. ap slip (e ∙ ap (slip_of (l.given + 1)) (ap (open_rows (l.given + 1)) part ∙ new-are-open m t k d l)) ∙ sym (ap (λ (x : Ledger × Answer). x.1) made);
+          answer = λ s e. ap slip (e ∙ ap (slip_of (l.given + 1)) (ap (open_rows (l.given + 1)) part ∙ new_are_open m t k d l)) ∙ sym (ap (λ (x : Ledger × Answer). x.1) made);
           becomes = is;
           reached = r;
           few = omega (arith, length-drop (length l.rows) rows, i.few_rows);
-          small = All-drop (λ x. x.megawatts ≤ 5000) (length l.rows) rows (small_of after-rows i);
+          small = All-drop (λ x. x.megawatts ≤ 5000) (length l.rows) rows (small_of after_rows i);
         }

@@ -90,20 +90,20 @@ module _ (lots : List (List ℕ)) (high : length lots ≡ 6) (wide : SixWide lot
   row_other : (i : ℕ) → (i ≡ a → ⊥) → get_or (written lots a b v) i [] ≡ get_or lots i []
   row_other i ne = get_or-set_other lots a i (set (get_or lots a []) b v) [] ne
 
-  pub written-high : length (written lots a b v) ≡ 6
-  written-high = length-set lots a (set (get_or lots a []) b v) ∙ high
+  pub written_high : length (written lots a b v) ≡ 6
+  written_high = length-set lots a (set (get_or lots a []) b v) ∙ high
 
-  pub written-wide : SixWide (written lots a b v)
-  written-wide i h = elim (cases_eq i a) [
+  pub written_wide : SixWide (written lots a b v)
+  written_wide i h = elim (cases_eq i a) [
     | inl e ↦ ap (λ k. length (get_or (written lots a b v) k [])) e ∙ (ap length row_here ∙ (length-set (get_or lots a []) b v ∙ wide a ha))
     | inr ne ↦ ap length (row_other i ne) ∙ wide i h
   ]
 
-  cell-here : cell (written lots a b v) a b ≡ v
-  cell-here = ap (λ (ns : List ℕ). get_or ns b 0) row_here ∙ get_or-set_same (get_or lots a []) b v 0 (omega (arith, wide a ha))
+  cell_here : cell (written lots a b v) a b ≡ v
+  cell_here = ap (λ (ns : List ℕ). get_or ns b 0) row_here ∙ get_or-set_same (get_or lots a []) b v 0 (omega (arith, wide a ha))
 
-  cell-beside : (j : ℕ) → (j ≡ b → ⊥) → cell (written lots a b v) a j ≡ cell lots a j
-  cell-beside j ne = ap (λ (ns : List ℕ). get_or ns j 0) row_here ∙ get_or-set_other (get_or lots a []) b j v 0 ne
+  cell_beside : (j : ℕ) → (j ≡ b → ⊥) → cell (written lots a b v) a j ≡ cell lots a j
+  cell_beside j ne = ap (λ (ns : List ℕ). get_or ns j 0) row_here ∙ get_or-set_other (get_or lots a []) b j v 0 ne
 
   cell_other : (i j : ℕ) → (i ≡ a → ⊥) → cell (written lots a b v) i j ≡ cell lots i j
   cell_other i j ne = ap (λ (ns : List ℕ). get_or ns j 0) (row_other i ne)
@@ -112,16 +112,16 @@ module _ (lots : List (List ℕ)) (high : length lots ≡ 6) (wide : SixWide lot
   here : (i j : ℕ) → i ≡ r.up → j ≡ r.down → cell (written lots r.up r.down v) i j ≡ lot_with i j r (cell lots i j)
   here i j e f =
       let k = lot_with_here i j r (cell lots i j) (sym e) (sym f) in
-      let w : cell (written lots r.up r.down v) i j ≡ v = rw (e, f) (cell-here lots high wide r.up r.down v hu hd) in
+      let w : cell (written lots r.up r.down v) i j ≡ v = rw (e, f) (cell_here lots high wide r.up r.down v hu hd) in
       let s : v ≡ capped (cell lots i j + r.megawatts) = rw (e, f) sum in
       w ∙ (s ∙ sym k)
 
-  pub lots-more : LotsWith lots r (written lots r.up r.down v)
-  lots-more i j hi hj = elim (cases_eq i r.up) [
+  pub lots_more : LotsWith lots r (written lots r.up r.down v)
+  lots_more i j hi hj = elim (cases_eq i r.up) [
     | inl e ↦ elim (cases_eq j r.down) [
       | inl f ↦ here i j e f
       | inr ne ↦
-          let w : cell (written lots r.up r.down v) i j ≡ cell lots i j = rw e (cell-beside lots high wide r.up r.down v hu hd j ne) in
+          let w : cell (written lots r.up r.down v) i j ≡ cell lots i j = rw e (cell_beside lots high wide r.up r.down v hu hd j ne) in
           w ∙ sym (lot_with_beside i j r (cell lots i j) (λ g. ne (sym g)))
     ]
     | inr ne ↦ cell_other lots high wide r.up r.down v hu hd i j ne ∙ sym (lot_with_above i j r (cell lots i j) (λ g. ne (sym g)))
@@ -136,18 +136,18 @@ module _ {X : Type 0} (f : UnitStanding → X) (d : X) (t : StandingTable) (q : 
   put_map : map f t'.units ≡ set (map f t.units) q (f s)
   put_map = ap (map f) put ∙ map-set f t.units q s
 
-  field-here : q < 32 → get_or (map f t'.units) q d ≡ f s
-  field-here h =
+  field_here : q < 32 → get_or (map f t'.units) q d ≡ f s
+  field_here h =
       let len = length-map t.units f in
       ap (λ (xs : List X). get_or xs q d) put_map ∙ get_or-set_same (map f t.units) q (f s) d (omega (arith, t.long))
 
-  field-other : (p : ℕ) → (p ≡ q → ⊥) → get_or (map f t'.units) p d ≡ get_or (map f t.units) p d
-  field-other p ne = ap (λ (xs : List X). get_or xs p d) put_map ∙ get_or-set_other (map f t.units) q p (f s) d ne
+  field_other : (p : ℕ) → (p ≡ q → ⊥) → get_or (map f t'.units) p d ≡ get_or (map f t.units) p d
+  field_other p ne = ap (λ (xs : List X). get_or xs p d) put_map ∙ get_or-set_other (map f t.units) q p (f s) d ne
 
 -- ---- what is read of a table
 module _ {X : Type 0} (f : UnitStanding → X) (d : X) (t : StandingTable) (p : ℕ) where
-  pub field-read : (s : UnitStanding) → p < 32 → f (get_or t.units p s) ≡ get_or (map f t.units) p d
-  field-read s h = sym (get_or-map f t.units p s d (omega (arith, t.long)))
+  pub field_read : (s : UnitStanding) → p < 32 → f (get_or t.units p s) ≡ get_or (map f t.units) p d
+  field_read s h = sym (get_or-map f t.units p s d (omega (arith, t.long)))
 
   pub field_past : 32 ≤ p → get_or (map f t.units) p d ≡ d
   field_past h =
@@ -176,13 +176,13 @@ cell_of_none i j = elim (cases_lt i 6) [
 
 -- ---- one row more
 module _ (us : List UnitState) (rs : List Row) (r : Row) where
-  fits-before : sum_of (λ x. x.megawatts) (rs ++ r ∷ []) < 2 ^ 32 → sum_of (λ x. x.megawatts) rs + r.megawatts < 2 ^ 32
-  fits-before h = omega (arith, sum_of-append (λ (x : Row). x.megawatts) rs (r ∷ []))
+  fits_before : sum_of (λ x. x.megawatts) (rs ++ r ∷ []) < 2 ^ 32 → sum_of (λ x. x.megawatts) rs + r.megawatts < 2 ^ 32
+  fits_before h = omega (arith, sum_of-append (λ (x : Row). x.megawatts) rs (r ∷ []))
 
   -- a place of another number
-  stands-beside : (t t' : StandingTable) (p n : ℕ) → sides_at t' p ≡ sides_at t p → lots_at t' p ≡ lots_at t p → (r.unit ≡ n → ⊥) →
+  stands_beside : (t t' : StandingTable) (p n : ℕ) → sides_at t' p ≡ sides_at t p → lots_at t' p ≡ lots_at t p → (r.unit ≡ n → ⊥) →
       StandsAt t p n rs → StandsAt t' p n (rs ++ r ∷ [])
-  stands-beside t t' p n same-sides same_lots ne s =
+  stands_beside t t' p n same-sides same_lots ne s =
       record {
         sides = same-sides ∙ (s.sides ∙ sym (same_standing _ _ _ _ _ _ (own_more_no (share Up) n rs r ne) (own_more_no (share Down) n rs r ne) (own_more_no (share Band) n rs r ne)));
         lots = λ i j hi hj. ap (λ square. cell square i j) same_lots ∙ (s.lots i j hi hj ∙ sym (own_more_no (at_key i j) n rs r ne));
@@ -213,28 +213,28 @@ module _ (us : List UnitState) (rs : List Row) (r : Row) where
             lots-are i j hi hj ∙ (lot_with_adds i j r (lot_at t p i j) (omega arith) ∙ omega (arith, own_more_yes (at_key i j) n rs r e));
       }
 
-  pub row-of-none : (t : StandingTable) → NoneNumbered r.unit us → StandsBy t us rs → StandsBy t us (rs ++ r ∷ [])
-  row-of-none t none st num len fits p d h =
-      let f = fits-before fits in
-      stands-beside t t p (number (get_or us p d)) refl refl (λ e. All-get_or (λ u. number u ≡ r.unit → ⊥) us p d h none (sym e)) (st num len (omega arith) p d h)
+  pub row_of_none : (t : StandingTable) → NoneNumbered r.unit us → StandsBy t us rs → StandsBy t us (rs ++ r ∷ [])
+  row_of_none t none st num len fits p d h =
+      let f = fits_before fits in
+      stands_beside t t p (number (get_or us p d)) refl refl (λ e. All-get_or (λ u. number u ≡ r.unit → ⊥) us p d h none (sym e)) (st num len (omega arith) p d h)
 
-  pub row-past : (t : StandingTable) (q : ℕ) → FirstNumbered r.unit us q → 32 ≤ q → StandsBy t us rs → StandsBy t us (rs ++ r ∷ [])
-  row-past t q at past st num len fits p d h = absurd (omega (arith, at.within))
+  pub row_past : (t : StandingTable) (q : ℕ) → FirstNumbered r.unit us q → 32 ≤ q → StandsBy t us rs → StandsBy t us (rs ++ r ∷ [])
+  row_past t q at past st num len fits p d h = absurd (omega (arith, at.within))
 
-  pub row-added : (t t' : StandingTable) (q : ℕ) (s : UnitStanding) → FirstNumbered r.unit us q → q < 32 → t'.units ≡ set t.units q s →
+  pub row_added : (t t' : StandingTable) (q : ℕ) (s : UnitStanding) → FirstNumbered r.unit us q → q < 32 → t'.units ≡ set t.units q s →
       s.sides ≡ sides_with (sides_at t q) r → LotsWith (lots_at t q) r s.lots → StandsBy t us rs → StandsBy t' us (rs ++ r ∷ [])
-  row-added t t' q s at small put sides-are lots-are st num len fits p d h =
-      let f = fits-before fits in
+  row_added t t' q s at small put sides-are lots-are st num len fits p d h =
+      let f = fits_before fits in
       let s0 = st num len (omega arith) p d h in
       elim (cases_eq p q) [
         | inl e ↦
             stands_here t t' p (number (get_or us p d)) (sym (ap (λ k. number (get_or us k d)) e ∙ at.numbered d)) f
-            (subst (λ k. sides_at t' k ≡ sides_with (sides_at t k) r) (sym e) (field-here (λ u. u.sides) no_sides t q s t' put small ∙ sides-are))
+            (subst (λ k. sides_at t' k ≡ sides_with (sides_at t k) r) (sym e) (field_here (λ u. u.sides) no_sides t q s t' put small ∙ sides-are))
             (subst (λ k. LotsWith (lots_at t k) r (lots_at t' k)) (sym e)
-            (subst (λ square. LotsWith (lots_at t q) r square) (sym (field-here (λ u. u.lots) [] t q s t' put small)) lots-are))
+            (subst (λ square. LotsWith (lots_at t q) r square) (sym (field_here (λ u. u.lots) [] t q s t' put small)) lots-are))
             s0
         | inr ne ↦
-            stands-beside t t' p (number (get_or us p d)) (field-other (λ u. u.sides) no_sides t q s t' put p ne) (field-other (λ u. u.lots) [] t q s t' put p ne)
+            stands_beside t t' p (number (get_or us p d)) (field_other (λ u. u.sides) no_sides t q s t' put p ne) (field_other (λ u. u.lots) [] t q s t' put p ne)
             (λ e. ne (one_place us num p q d h at.within (sym (at.numbered d ∙ e)))) s0
       ]
 
@@ -243,6 +243,6 @@ pub no_rows : (t : StandingTable) (us : List UnitState) (s : UnitStanding) → t
 no_rows t us s all sides-none lots-none num len fits p d h =
     let at : get_or t.units p s ≡ s = ap (λ xs. get_or xs p s) all ∙ get_or-replicate 32 p s s (omega arith) in
     record {
-      sides = sym (field-read (λ u. u.sides) no_sides t p s (omega arith)) ∙ (ap (λ (u : UnitStanding). u.sides) at ∙ sides-none);
-      lots = λ i j hi hj. ap (λ square. cell square i j) (sym (field-read (λ u. u.lots) [] t p s (omega arith)) ∙ ap (λ (u : UnitStanding). u.lots) at) ∙ lots-none i j;
+      sides = sym (field_read (λ u. u.sides) no_sides t p s (omega arith)) ∙ (ap (λ (u : UnitStanding). u.sides) at ∙ sides-none);
+      lots = λ i j hi hj. ap (λ square. cell square i j) (sym (field_read (λ u. u.lots) [] t p s (omega arith)) ∙ ap (λ (u : UnitStanding). u.lots) at) ∙ lots-none i j;
     }

@@ -1,4 +1,6 @@
 // The book of one settlement interval: units, rows, and the calls that change them.
+#![tactic(auto)]
+
 ghost use Rattle.ledger.specs.Reach.{Reached};
 ghost use Rattle.book.specs.Tables.{units_of, rows_of};
 

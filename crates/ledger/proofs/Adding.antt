@@ -69,14 +69,14 @@ row_stands r rows i =
 
 -- ---- the lots of a side with their remainders, by units
 module _ (side : Side) (l : Ledger) (P : Remaining → Type 0) where
-  every-lot : ((u : UnitState) → In u l.units → (k : LotFigures) → In k (lots side u) → P (remaining_lot l.rows u k)) → All P (open_lots side l)
-  every-lot f =
+  every_lot : ((u : UnitState) → In u l.units → (k : LotFigures) → In k (lots side u) → P (remaining_lot l.rows u k)) → All P (open_lots side l)
+  every_lot f =
       all_joined P (λ u. map (remaining_lot l.rows u) (lots side u)) l.units
       (all_members (λ u. All P (map (remaining_lot l.rows u) (lots side u))) l.units
       (λ u i. All-map P (remaining_lot l.rows u) (lots side u) (all_members (λ k. P (remaining_lot l.rows u k)) (lots side u) (f u i))))
 
-  lots-of-unit : All P (open_lots side l) → (u : UnitState) → In u l.units → All (λ k. P (remaining_lot l.rows u k)) (lots side u)
-  lots-of-unit h u i =
+  lots_of_unit : All P (open_lots side l) → (u : UnitState) → In u l.units → All (λ k. P (remaining_lot l.rows u k)) (lots side u)
+  lots_of_unit h u i =
       let g = λ (w : UnitState). map (remaining_lot l.rows w) (lots side w) in
       all_mapped P (remaining_lot l.rows u) (lots side u) (in_all (λ w. All P (g w)) u l.units i (all_of_joined P g l.units h))
 
@@ -116,7 +116,7 @@ of_unit_by side r u e h =
 
 row_is_known : (side : Side) (l : Ledger) → All (λ lot. (r : Row) → RowOf r lot → is_known l.units r ≡ true) (open_lots side l)
 row_is_known side l =
-    every-lot side l (λ lot. (r : Row) → RowOf r lot → is_known l.units r ≡ true)
+    every_lot side l (λ lot. (r : Row) → RowOf r lot → is_known l.units r ≡ true)
     (λ u i k j r o.
     let keys = and_from (eqb r.up k.up) (eqb r.down k.down) (eq-eqb r.up k.up o.its_up) (eq-eqb r.down k.down o.its_down) in
     let here = and_from (eqb r.up k.up && eqb r.down k.down) (same_cost r.cost k.cost) keys (cost_itself r.cost k.cost o.its_cost) in
@@ -131,7 +131,7 @@ offered_le Band i n h = omega arith
 -- no lot has more than 5000 megawatts left
 few_left : (side : Side) (l : Ledger) → All OfClosed l.units → All (λ lot. lot.rest ≤ 5000) (open_lots side l)
 few_left side l closed =
-    every-lot side l (λ lot. lot.rest ≤ 5000)
+    every_lot side l (λ lot. lot.rest ≤ 5000)
     (λ u i k j.
     let c = in_all OfClosed u l.units i closed in
     let low : u.notification ≤ summed u.offer = omega (arith, c.sums, c.notified, c.available) in
@@ -163,7 +163,7 @@ keys_apart Band Down h i j a b = omega (arith, a.0, b.0)
 keys_apart Band Band h i j a b = true≢false h
 
 keys_open : (side : Side) (l : Ledger) → All (λ lot. OfSide side lot.up lot.down) (open_lots side l)
-keys_open side l = every-lot side l (λ lot. OfSide side lot.up lot.down) (λ u i k j. in_all (KeyOf side) k (lots side u) j (keys_of side u))
+keys_open side l = every_lot side l (λ lot. OfSide side lot.up lot.down) (λ u i k j. in_all (KeyOf side) k (lots side u) j (keys_of side u))
 
 -- more of one side
 more_of : (side : Side) (a b c : Side → ℕ) → ((s : Side) → c s ≡ a s + b s) → ((s : Side) → same_side s side ≡ false → b s ≡ 0) →
@@ -191,8 +191,8 @@ asked Band rows n h =
 -- ---- the new rows
 module _ (l : Ledger) (v : Invariant l) (closed : l.closed ≡ true) (m : MarketModel) (clear : (is_band m.side && energy_stands l.rows) ≡ false) (n : ℕ) (new : List Row)
     (chosen : PermittedChoice m l (lot_stands new)) (fresh : All (NewRow (open_lots m.side l) (l.given + 1) n) new) where
-  sound-new : All (SoundRow l.units (l.given + 1)) new
-  sound-new =
+  sound_new : All (SoundRow l.units (l.given + 1)) new
+  sound_new =
       all_members (SoundRow l.units (l.given + 1)) new
       (λ r i.
       let w = in_all (NewRow (open_lots m.side l) (l.given + 1) n) r new i fresh in
@@ -210,8 +210,8 @@ module _ (l : Ledger) (v : Invariant l) (closed : l.closed ≡ true) (m : Market
       })
 
   -- their keys are of the market's side
-  keys-new : All (λ r. OfSide m.side r.up r.down) new
-  keys-new =
+  keys_new : All (λ r. OfSide m.side r.up r.down) new
+  keys_new =
       All-weaker (NewRow (open_lots m.side l) (l.given + 1) n) (λ r. OfSide m.side r.up r.down)
       (λ r w.
       let key = in_all (λ lot. OfSide m.side lot.up lot.down) w.lot (open_lots m.side l) w.among (keys_open m.side l) in
@@ -224,11 +224,11 @@ module _ (l : Ledger) (v : Invariant l) (closed : l.closed ≡ true) (m : Market
       (λ k key. sum_of_none (at_key k.up k.down) (own_rows (number u) new)
       (all_kept_by (λ r. eqb r.unit (number u)) (λ r. share r k ≡ 0) new
       (All-weaker (λ r. OfSide m.side r.up r.down) (λ r. share r k ≡ 0)
-      (λ r a. no_share r k (λ b. keys_apart s m.side e k.up k.down key (subst (λ x. OfSide m.side x k.down) b.0 (subst (λ x. OfSide m.side r.up x) b.1 a)))) new keys-new)))
+      (λ r a. no_share r k (λ b. keys_apart s m.side e k.up k.down key (subst (λ x. OfSide m.side x k.down) b.0 (subst (λ x. OfSide m.side r.up x) b.1 a)))) new keys_new)))
       (lots s u) (keys_of s u)
 
-  fits-added : (u : UnitState) → In u l.units → Fits (l.rows ++ new) u
-  fits-added u i s =
+  fits_added : (u : UnitState) → In u l.units → Fits (l.rows ++ new) u
+  fits_added u i s =
       let st = lot_stands l.rows (number u) in
       let more = lot_stands new (number u) in
       let old = in_all (Fits l.rows) u l.units i v.lots_fit in
@@ -238,25 +238,25 @@ module _ (l : Ledger) (v : Invariant l) (closed : l.closed ≡ true) (m : Market
       (all_zip (λ k. stands_of more k ≤ k.size - stands_of st k) (λ k. stands_of st k ≤ k.size) (lots t u) a (old t)) in
       elim (cases_Bool (same_side s m.side)) [
         | inl e ↦ subst (λ t. All (λ k. stands_of (lot_stands (l.rows ++ new) (number u)) k ≤ k.size) (lots t u)) (sym (sides_same s m.side e))
-            (by m.side (lots-of-unit m.side l (λ lot. taken_by (lot_stands new) lot ≤ lot.rest) chosen.within_remainders u i))
+            (by m.side (lots_of_unit m.side l (λ lot. taken_by (lot_stands new) lot ≤ lot.rest) chosen.within_remainders u i))
         | inr e ↦ by s (All-weaker (λ k. stands_of more k ≡ 0) (λ k. stands_of more k ≤ k.size - stands_of st k) (λ k z. omega arith) (lots s u) (none_other s e u))
       ]
 
-  known-new : (u : UnitState) → In u l.units → Known u new
-  known-new u i =
+  known_new : (u : UnitState) → In u l.units → Known u new
+  known_new u i =
       in_all (λ w. Known w new) u l.units i
-      (all_known l.units v.numbered new (All-weaker (SoundRow l.units (l.given + 1)) (λ r. is_known l.units r ≡ true) (λ r s. s.known) new sound-new))
+      (all_known l.units v.numbered new (All-weaker (SoundRow l.units (l.given + 1)) (λ r. is_known l.units r ≡ true) (λ r s. s.known) new sound_new))
 
   -- what stands of a unit afterwards
-  standing-added : (u : UnitState) → In u l.units → standing_of (l.rows ++ new) (number u) ≡ with_more m.side (stood m.side u (lot_stands new (number u))) (standing_of l.rows (number u))
-  standing-added u i =
+  standing_added : (u : UnitState) → In u l.units → standing_of (l.rows ++ new) (number u) ≡ with_more m.side (stood m.side u (lot_stands new (number u))) (standing_of l.rows (number u))
+  standing_added u i =
       let more = lot_stands new (number u) in
       more_of m.side (λ s. side_stands s l.rows (number u)) (λ s. stood s u more) (λ s. side_stands s (l.rows ++ new) (number u))
-      (λ s. sum_added (λ r. cond (of_side s r) r.megawatts 0) (number u) l.rows new ∙ ap (λ x. side_stands s l.rows (number u) + x) (stood_is u new (known-new u i) s))
+      (λ s. sum_added (λ r. cond (of_side s r) r.megawatts 0) (number u) l.rows new ∙ ap (λ x. side_stands s l.rows (number u) + x) (stood_is u new (known_new u i) s))
       (λ s e. sum_of_none (stands_of more) (lots s u) (none_other s e u))
 
-  between-added : (u : UnitState) → In u l.units → Between u (standing_of (l.rows ++ new) (number u))
-  between-added u i =
+  between_added : (u : UnitState) → In u l.units → Between u (standing_of (l.rows ++ new) (number u))
+  between_added u i =
       let f = facts l v closed in
       let st = lot_stands l.rows (number u) in
       let more = stood m.side u (lot_stands new (number u)) in
@@ -265,7 +265,7 @@ module _ (l : Ledger) (v : Invariant l) (closed : l.closed ≡ true) (m : Market
       let most = in_all (λ w. unit_takes (lot_stands new) (number w) (open_lots m.side l) ≤ m.eligible w (standing_of l.rows (number w))) u l.units i chosen.within_eligible in
       let b = m.keeps_between u st (in_all (λ w. Placed w (lot_stands l.rows (number w))) u l.units i f.placed)
       (subst (Asked m.side) e (asked m.side l.rows (number u) clear)) more (omega (arith, ap (m.eligible u) e)) in
-      subst (Between u) (sym (standing-added u i ∙ ap (with_more m.side more) e)) b
+      subst (Between u) (sym (standing_added u i ∙ ap (with_more m.side more) e)) b
 
 pub invariant_selected : (l : Ledger) → Invariant l → l.closed ≡ true → (m : MarketModel) → (is_band m.side && energy_stands l.rows) ≡ false → (n : ℕ) (new : List Row) →
     PermittedChoice m l (lot_stands new) → All (NewRow (open_lots m.side l) (l.given + 1) n) new → Pairwise OtherLot new → length l.rows + length new ≤ 512 → l.given < 65535 →
@@ -281,7 +281,7 @@ invariant_selected l v closed m clear n new chosen fresh apart room given = reco
   sound_rows = All-append (SoundRow l.units (l.given + 1)) l.rows new
       (All-weaker (SoundRow l.units l.given) (SoundRow l.units (l.given + 1))
       (λ r s. record { known = s.known; some_megawatts = s.some_megawatts; few_megawatts = s.few_megawatts; numbered = omega (arith, s.numbered) }) l.rows v.sound_rows)
-      (sound-new l v closed m clear n new chosen fresh);
-  lots_fit = all_members (Fits (l.rows ++ new)) l.units (fits-added l v closed m clear n new chosen fresh);
-  between = all_members (λ u. Between u (standing_of (l.rows ++ new) (number u))) l.units (between-added l v closed m clear n new chosen fresh);
+      (sound_new l v closed m clear n new chosen fresh);
+  lots_fit = all_members (Fits (l.rows ++ new)) l.units (fits_added l v closed m clear n new chosen fresh);
+  between = all_members (λ u. Between u (standing_of (l.rows ++ new) (number u))) l.units (between_added l v closed m clear n new chosen fresh);
 }

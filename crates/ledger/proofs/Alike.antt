@@ -63,28 +63,28 @@ same_by_rows : (k l : Ledger) → SameStanding k l → (u : UnitState) → Known
 same_by_rows k l s u p q = rows_stand_by_lots u k.rows p ∙ (ap (standing u) (same_stands k l s (number u)) ∙ sym (rows_stand_by_lots u l.rows q))
 
 module _ (m : MarketModel) (k l : Ledger) (nl : Numbered l.units) (pk : All (λ u. Known u k.rows) k.units) (pl : All (λ u. Known u l.rows) l.units) (s : SameStanding k l) where
-  named-alike : (n : ℕ) (u : UnitState) → Names n k.units u → eligible_energy m k n ≡ eligible_energy m l n
-  named-alike n u c =
+  named_alike : (n : ℕ) (u : UnitState) → Names n k.units u → eligible_energy m k n ≡ eligible_energy m l n
+  named_alike n u c =
       let there = s.there u c.member in
       let one : eligible_energy m k n ≡ m.eligible u (standing_of k.rows (number u)) = ap (energy_named m k.rows) c.named in
       let two : eligible_energy m l n ≡ m.eligible u (standing_of l.rows (number u)) = ap (energy_named m l.rows) (named_there n u l.units nl there c.numbered) in
       let both = same_by_rows k l s u (in_all (λ v. Known v k.rows) u k.units c.member pk) (in_all (λ v. Known v l.rows) u l.units there pl) in
       one ∙ (ap (m.eligible u) both ∙ sym two)
 
-  unnamed-alike : (n : ℕ) → All (λ u. number u ≡ n → ⊥) k.units → eligible_energy m k n ≡ eligible_energy m l n
-  unnamed-alike n none =
+  unnamed_alike : (n : ℕ) → All (λ u. number u ≡ n → ⊥) k.units → eligible_energy m k n ≡ eligible_energy m l n
+  unnamed_alike n none =
       let back : All (λ u. number u ≡ n → ⊥) l.units = All-weaker (λ u. In u l.units) (λ u. number u ≡ n → ⊥) (λ u i. in_all (λ v. number v ≡ n → ⊥) u k.units (s.back u i) none) l.units (all_in l.units) in
       ap (energy_named m k.rows) (none_named n k.units none) ∙ sym (ap (energy_named m l.rows) (none_named n l.units back))
 
-  energy-alike : (n : ℕ) → eligible_energy m k n ≡ eligible_energy m l n
-  energy-alike n = elim (cases_named n k.units) [
-    | inl (u, c) ↦ named-alike n u c
-    | inr none ↦ unnamed-alike n none
+  energy_alike : (n : ℕ) → eligible_energy m k n ≡ eligible_energy m l n
+  energy_alike n = elim (cases_named n k.units) [
+    | inl (u, c) ↦ named_alike n u c
+    | inr none ↦ unnamed_alike n none
   ]
 
 pub same_standing_chooses_alike : SameStandingChoosesAlike
 same_standing_chooses_alike m k l nl pk pl s = record {
   lots_there = lots_there m.side k l s;
   lots_back = lots_there m.side l k (turned k l s);
-  eligible = energy-alike m k l nl pk pl s;
+  eligible = energy_alike m k l nl pk pl s;
 }

@@ -130,29 +130,29 @@ open_confirmed n k (r ∷ rows) = on (eqb r.selection n) (with_confirmed n rows)
 
 -- ---- the slips but for one
 module _ (s : SlipFigures) where
-  all-spent : (P : SlipFigures → Type 0) (ss : List SlipFigures) → All P ss → All P (spent s ss)
-  all-spent P [] h = tt
-  all-spent P (x ∷ xs) h = cond_both (same_figures s x) xs (x ∷ spent s xs) (All P) (λ e. h.1) (λ e. (h.0, all-spent P xs h.1))
+  all_spent : (P : SlipFigures → Type 0) (ss : List SlipFigures) → All P ss → All P (spent s ss)
+  all_spent P [] h = tt
+  all_spent P (x ∷ xs) h = cond_both (same_figures s x) xs (x ∷ spent s xs) (All P) (λ e. h.1) (λ e. (h.0, all_spent P xs h.1))
 
-  pairwise-spent : (R : SlipFigures → SlipFigures → Type 0) (ss : List SlipFigures) → Pairwise R ss → Pairwise R (spent s ss)
-  pairwise-spent R [] h = tt
-  pairwise-spent R (x ∷ xs) h =
-      cond_both (same_figures s x) xs (x ∷ spent s xs) (Pairwise R) (λ e. h.1) (λ e. (all-spent (R x) xs h.0, pairwise-spent R xs h.1))
+  pairwise_spent : (R : SlipFigures → SlipFigures → Type 0) (ss : List SlipFigures) → Pairwise R ss → Pairwise R (spent s ss)
+  pairwise_spent R [] h = tt
+  pairwise_spent R (x ∷ xs) h =
+      cond_both (same_figures s x) xs (x ∷ spent s xs) (Pairwise R) (λ e. h.1) (λ e. (all_spent (R x) xs h.0, pairwise_spent R xs h.1))
 
   -- every other slip stays
-  in-spent : (x : SlipFigures) (ss : List SlipFigures) → (x ≡ s → ⊥) → In x ss → In x (spent s ss)
-  in-spent x [] ne i = i
-  in-spent x (y ∷ ys) ne (inl q) =
+  in_spent : (x : SlipFigures) (ss : List SlipFigures) → (x ≡ s → ⊥) → In x ss → In x (spent s ss)
+  in_spent x [] ne i = i
+  in_spent x (y ∷ ys) ne (inl q) =
       cond_both (same_figures s y) ys (y ∷ spent s ys) (In x) (λ e. absurd (ne (q ∙ same_figures_is s y e))) (λ e. inl q)
-  in-spent x (y ∷ ys) ne (inr i) = cond_both (same_figures s y) ys (y ∷ spent s ys) (In x) (λ e. i) (λ e. inr (in-spent x ys ne i))
+  in_spent x (y ∷ ys) ne (inr i) = cond_both (same_figures s y) ys (y ∷ spent s ys) (In x) (λ e. i) (λ e. inr (in_spent x ys ne i))
 
   -- and no slip that stays has the number of a slip that was there
-  spent-others : (ss : List SlipFigures) → Pairwise Apart ss → In s ss → All (λ x. Apart x s) (spent s ss)
-  spent-others [] h i = absurd i
-  spent-others (x ∷ xs) h i =
+  spent_others : (ss : List SlipFigures) → Pairwise Apart ss → In s ss → All (λ x. Apart x s) (spent s ss)
+  spent_others [] h i = absurd i
+  spent_others (x ∷ xs) h i =
       cond_both (same_figures s x) xs (x ∷ spent s xs) (All (λ y. Apart y s))
       (λ e. All-weaker (Apart x) (λ y. Apart y s) (λ y ne q. ne (ap (λ z. z.number) (same_figures_is s x e) ∙ sym q)) xs h.0)
-      (λ e. on e i (spent-others xs h.1))
+      (λ e. on e i (spent_others xs h.1))
     where
       on : same_figures s x ≡ false → In s (x ∷ xs) → (In s xs → All (λ y. Apart y s) (spent s xs)) → All (λ y. Apart y s) (x ∷ spent s xs)
       on e (inl q) ih = absurd (other_figures s x e q)
@@ -168,41 +168,41 @@ module _ (s : SlipFigures) where
       let ih = in_spot xs m in
       cond_both (same_figures s x) 0 (suc (spot s xs)) (λ n. n < suc (length xs)) (λ e. omega arith) (λ e. omega arith)
 
-  pub spot-within : (ss : List SlipFigures) → spot s ss ≤ length ss
-  spot-within [] = omega arith
-  spot-within (x ∷ xs) =
-      let ih = spot-within xs in
+  pub spot_within : (ss : List SlipFigures) → spot s ss ≤ length ss
+  spot_within [] = omega arith
+  spot_within (x ∷ xs) =
+      let ih = spot_within xs in
       cond_both (same_figures s x) 0 (suc (spot s xs)) (λ n. n ≤ suc (length xs)) (λ e. omega arith) (λ e. omega arith)
 
   -- removing at the spot spends the slip
-  pub spot-without : (ss : List SlipFigures) → remove ss (spot s ss) ≡ spent s ss
-  spot-without [] = refl
-  spot-without (x ∷ xs) = on (same_figures s x) (spot-without xs)
+  pub spot_without : (ss : List SlipFigures) → remove ss (spot s ss) ≡ spent s ss
+  spot_without [] = refl
+  spot_without (x ∷ xs) = on (same_figures s x) (spot_without xs)
     where
       on : (b : Bool) → remove xs (spot s xs) ≡ spent s xs → remove (x ∷ xs) (cond b 0 (suc (spot s xs))) ≡ cond b xs (x ∷ spent s xs)
       on true e = refl
       on false e = ap (λ ys. x ∷ ys) e
 
   -- no slip is there, and none is spent
-  pub spot-none : (ss : List SlipFigures) → length ss ≤ spot s ss → spent s ss ≡ ss
-  spot-none [] h = refl
-  spot-none (x ∷ xs) h = on (same_figures s x) (spot-none xs) h
+  pub spot_none : (ss : List SlipFigures) → length ss ≤ spot s ss → spent s ss ≡ ss
+  spot_none [] h = refl
+  spot_none (x ∷ xs) h = on (same_figures s x) (spot_none xs) h
     where
       on : (b : Bool) → (length xs ≤ spot s xs → spent s xs ≡ xs) → suc (length xs) ≤ cond b 0 (suc (spot s xs)) → cond b xs (x ∷ spent s xs) ≡ x ∷ xs
       on true e l = absurd (omega arith)
       on false e l = ap (λ ys. x ∷ ys) (e (omega arith))
 
   -- rows of which none is open under the number of s, and else the same are open
-  hand-spent : (ss : List SlipFigures) (rows rows' : List Row) (g : ℕ) → is_held s rows ≡ true → open_rows s.number rows' ≡ [] → ((k : ℕ) → (s.number ≡ k → ⊥) → open_rows k rows' ≡ open_rows k rows) →
+  hand_spent : (ss : List SlipFigures) (rows rows' : List Row) (g : ℕ) → is_held s rows ≡ true → open_rows s.number rows' ≡ [] → ((k : ℕ) → (s.number ≡ k → ⊥) → open_rows k rows' ≡ open_rows k rows) →
       All (λ r. r.selection ≤ g) rows' → Hand ss rows g → Hand (spent s ss) rows' g
-  hand-spent ss rows rows' g held own rest past h =
+  hand_spent ss rows rows' g held own rest past h =
       record {
         open_still = All-weaker (λ x. (is_held x rows ≡ true) × Apart x s) (λ x. is_held x rows' ≡ true) (λ x p. held_alike x rows rows' (rest x.number (λ e. p.1 (sym e))) p.0) (spent s ss)
-            (all_zip (λ x. is_held x rows ≡ true) (λ x. Apart x s) (spent s ss) (all-spent (λ x. is_held x rows ≡ true) ss h.open_still) (spent-others ss h.sole (h.every s held)));
+            (all_zip (λ x. is_held x rows ≡ true) (λ x. Apart x s) (spent s ss) (all_spent (λ x. is_held x rows ≡ true) ss h.open_still) (spent_others ss h.sole (h.every s held)));
         every = λ x k.
             let ne : s.number ≡ x.number → ⊥ = λ e. omega (arith, held_long x rows' k, ap (λ n. length (open_rows n rows')) e, ap length own) in
-            in-spent x ss (λ e. ne (ap (λ y. y.number) (sym e))) (h.every x (held_alike x rows' rows (sym (rest x.number ne)) k));
-        sole = pairwise-spent Apart ss h.sole;
+            in_spent x ss (λ e. ne (ap (λ y. y.number) (sym e))) (h.every x (held_alike x rows' rows (sym (rest x.number ne)) k));
+        sole = pairwise_spent Apart ss h.sole;
         past = past;
       }
 
@@ -210,13 +210,13 @@ module _ (s : SlipFigures) where
 pub hand_withdrawn : (s : SlipFigures) (ss : List SlipFigures) (rows : List Row) (g : ℕ) → is_held s rows ≡ true → Hand ss rows g → Hand (spent s ss) (without s.number rows) g
 hand_withdrawn s ss rows g held h =
     let n = s.number in
-    hand-spent s ss rows (without n rows) g held (open_without_own n rows) (λ k ne. open_without_other n k ne rows) (all_kept_by (of_another n) (λ r. r.selection ≤ g) rows h.past) h
+    hand_spent s ss rows (without n rows) g held (open_without_own n rows) (λ k ne. open_without_other n k ne rows) (all_kept_by (of_another n) (λ r. r.selection ≤ g) rows h.past) h
 
 -- and so does confirming
 pub hand_confirmed : (s : SlipFigures) (ss : List SlipFigures) (rows : List Row) (g : ℕ) → is_held s rows ≡ true → Hand ss rows g → Hand (spent s ss) (with_confirmed s.number rows) g
 hand_confirmed s ss rows g held h =
     let n = s.number in
-    hand-spent s ss rows (with_confirmed n rows) g held (open_confirmed n n rows ∙ open_without_own n rows) (λ k ne. open_confirmed n k rows ∙ open_without_other n k ne rows)
+    hand_spent s ss rows (with_confirmed n rows) g held (open_confirmed n n rows ∙ open_without_own n rows) (λ k ne. open_confirmed n k rows ∙ open_without_other n k ne rows)
     (All-map (λ r. r.selection ≤ g) (confirmed_if n) rows
     (All-weaker (λ r. r.selection ≤ g) (λ r. (confirmed_if n r).selection ≤ g) (λ r l. cond_both (eqb r.selection n) (confirmed r) r (λ q. q.selection ≤ g) (λ e. l) (λ e. l)) rows h.past)) h
 

@@ -296,17 +296,17 @@ module _ (l : Ledger) (v : Invariant l) where
   idle : l.closed ≡ false → (n : ℕ) → has_rows n l.rows ≡ false
   idle c n = no_rows n l.rows (v.no_rows_before_closing c)
 
-  idle-sound : (us : List UnitState) (given : ℕ) → l.closed ≡ false → All (SoundRow us given) l.rows
-  idle-sound us given c = none l.rows (v.no_rows_before_closing c)
+  idle_sound : (us : List UnitState) (given : ℕ) → l.closed ≡ false → All (SoundRow us given) l.rows
+  idle_sound us given c = none l.rows (v.no_rows_before_closing c)
     where
       none : (rows : List Row) → length rows ≡ 0 → All (SoundRow us given) rows
       none [] h = tt
       none (r ∷ rows) h = absurd (omega arith)
 
   -- units of a ledger without rows
-  invariant-idle : (c : Bool) (us : List UnitState) → l.closed ≡ false → length us ≤ 32 → Numbered us → All Kept us → (c ≡ true → All (λ u. 1 ≤ length u.offer) us) →
+  invariant_idle : (c : Bool) (us : List UnitState) → l.closed ≡ false → length us ≤ 32 → Numbered us → All Kept us → (c ≡ true → All (λ u. 1 ≤ length u.offer) us) →
       Invariant (record { closed = c; units = us; rows = l.rows; given = l.given })
-  invariant-idle c us early few ns kept offered = record {
+  invariant_idle c us early few ns kept offered = record {
     few_units = few;
     numbered = ns;
     kept = kept;
@@ -314,35 +314,35 @@ module _ (l : Ledger) (v : Invariant l) where
     no_rows_before_closing = λ d. v.no_rows_before_closing early;
     few_rows = v.few_rows;
     few_given = v.few_given;
-    sound_rows = idle-sound us l.given early;
+    sound_rows = idle_sound us l.given early;
     lots_fit = all_of (Fits l.rows) (λ u. idle_fits u l.rows (idle early (number u))) us;
     between = All-weaker Kept (λ u. Between u (standing_of l.rows (number u))) (λ u k. idle_between u l.rows (idle early (number u)) k) us kept;
   }
 
-  step-registering : (r : Registration) → Passes (register_lines r l) → Invariant (registered r l)
-  step-registering r p =
+  step_registering : (r : Registration) → Passes (register_lines r l) → Invariant (registered r l)
+  step_registering r p =
       let us = l.units in
       let u = new_unit (figures_of r) in
-      invariant-idle l.closed (us ++ (u ∷ [])) p.1.0
+      invariant_idle l.closed (us ++ (u ∷ [])) p.1.0
       (omega (arith, length-append us (u ∷ []), leb-false 32 (length us) p.1.1.1.0))
       (pairwise_append (λ a b. number a ≡ number b → ⊥) us (u ∷ []) v.numbered (tt, tt)
       (All-weaker (λ w. number w ≡ r.number → ⊥) (λ w. All (λ b. number w ≡ number b → ⊥) (u ∷ [])) (λ w k. (k, tt)) us (not_named r.number us p.1.1.0)))
       (All-push Kept us u v.kept (kept_new r (not-false (in_range r) p.0) (not-false (agrees r) p.1.1.1.1.0)))
       (λ c. absurd (both_ways l.closed p.1.0 c))
 
-  step-closing : (c : ℤ) → price_in_range c ≡ true → l.closed ≡ false → Invariant (closed_by c l)
-  step-closing c h early =
+  step_closing : (c : ℤ) → price_in_range c ≡ true → l.closed ≡ false → Invariant (closed_by c l)
+  step_closing c h early =
       let us = l.units in
-      invariant-idle true (map (closed_at c) us) early
+      invariant_idle true (map (closed_at c) us) early
       (omega (arith, length-map us (closed_at c), v.few_units))
       (pairwise_map (λ a b. number a ≡ number b → ⊥) (closed_at c) us v.numbered)
       (All-map Kept (closed_at c) us (All-weaker Kept (λ u. Kept (closed_at c u)) (λ u k. (kept_closed c h u k).0) us v.kept))
       (λ d. All-map (λ u. 1 ≤ length u.offer) (closed_at c) us (All-weaker Kept (λ u. 1 ≤ length (closed_at c u).offer) (λ u k. (kept_closed c h u k).1) us v.kept))
 
   -- rows of which no more stands than before
-  invariant-less : (rows : List Row) → length rows ≤ length l.rows → All (SoundRow l.units l.given) rows →
+  invariant_less : (rows : List Row) → length rows ≤ length l.rows → All (SoundRow l.units l.given) rows →
       ((n i j : ℕ) → lot_stands rows n i j ≤ lot_stands l.rows n i j) → ((side : Side) (n : ℕ) → side_stands side rows n ≤ side_stands side l.rows n) → Invariant (with_rows rows l)
-  invariant-less rows fewer sound lots-less sides-less = record {
+  invariant_less rows fewer sound lots-less sides-less = record {
     few_units = v.few_units;
     numbered = v.numbered;
     kept = v.kept;
@@ -359,23 +359,23 @@ module _ (l : Ledger) (v : Invariant l) where
         record { under_availability = omega (arith, b.under_availability); over_the_floor = omega (arith, b.over_the_floor) }) l.units v.between;
   }
 
-  step-withdrawing : (k : ℕ) → Invariant (with_rows (without k l.rows) l)
-  step-withdrawing k =
+  step_withdrawing : (k : ℕ) → Invariant (with_rows (without k l.rows) l)
+  step_withdrawing k =
       let rows = l.rows in
-      invariant-less (without k rows) (length_kept_le (of_another k) rows) (all_kept_by (of_another k) (SoundRow l.units l.given) rows v.sound_rows)
+      invariant_less (without k rows) (length_kept_le (of_another k) rows) (all_kept_by (of_another k) (SoundRow l.units l.given) rows v.sound_rows)
       (λ n i j. stands_without (at_key i j) k n rows) (λ side n. stands_without (at_side side) k n rows)
 
-  step-confirming : (k : ℕ) → Invariant (with_rows (with_confirmed k l.rows) l)
-  step-confirming k =
+  step_confirming : (k : ℕ) → Invariant (with_rows (with_confirmed k l.rows) l)
+  step_confirming k =
       let rows = l.rows in
-      invariant-less (with_confirmed k rows) (omega (arith, length-map rows (confirmed_if k)))
+      invariant_less (with_confirmed k rows) (omega (arith, length-map rows (confirmed_if k)))
       (All-map (SoundRow l.units l.given) (confirmed_if k) rows (All-weaker (SoundRow l.units l.given) (λ r. SoundRow l.units l.given (confirmed_if k r)) (sound_confirmed l.units l.given k) rows v.sound_rows))
       (λ n i j. omega (arith, stands_confirmed (at_key i j) (λ r. refl) k n rows))
       (λ side n. omega (arith, stands_confirmed (at_side side) (at_side_confirmed side) k n rows))
 
   -- the unit that has the number, as the lines find it
-  named-unit : (n : ℕ) (u : UnitState) → unit_named n l.units ≡ Some u → Names n l.units u
-  named-unit n u e = elim (cases_named n l.units) [
+  named_unit : (n : ℕ) (u : UnitState) → unit_named n l.units ≡ Some u → Names n l.units u
+  named_unit n u e = elim (cases_named n l.units) [
     | inl (w, k) ↦ let same : w ≡ u = cc k.named in subst (Names n l.units) same k
     | inr none ↦ absurd (none_some u (sym (none_named n l.units none) ∙ e))
   ]
@@ -383,25 +383,25 @@ module _ (l : Ledger) (v : Invariant l) where
   kept_of : (n : ℕ) (u : UnitState) → Names n l.units u → Kept u
   kept_of n u name = in_all Kept u l.units name.member v.kept
 
-  step-declaring : (n m : ℕ) (o : Option UnitState) → unit_named n l.units ≡ o → Passes (declare_lines n m l o) → Invariant (with_units (changed n (declared m) l.units) l)
-  step-declaring n m None e p = absurd (true≢false p.0)
-  step-declaring n m (Some u) e p =
-      let name = named-unit n u e in
+  step_declaring : (n m : ℕ) (o : Option UnitState) → unit_named n l.units ≡ o → Passes (declare_lines n m l o) → Invariant (with_units (changed n (declared m) l.units) l)
+  step_declaring n m None e p = absurd (true≢false p.0)
+  step_declaring n m (Some u) e p =
+      let name = named_unit n u e in
       invariant_changed l v n (declared m) (λ w. refl) p.1.0 u name (kept_declared m u (kept_of n u name) (not-false (may_declare m u) p.0))
       (λ c. in_all (λ w. 1 ≤ length w.offer) u l.units name.member (v.all_offered c))
 
-  step-notifying : (n m : ℕ) (o : Option UnitState) → unit_named n l.units ≡ o → Passes (notify_lines n m l o) → Invariant (with_units (changed n (notified l.closed m) l.units) l)
-  step-notifying n m None e p = absurd (true≢false p.0)
-  step-notifying n m (Some u) e p =
-      let name = named-unit n u e in
+  step_notifying : (n m : ℕ) (o : Option UnitState) → unit_named n l.units ≡ o → Passes (notify_lines n m l o) → Invariant (with_units (changed n (notified l.closed m) l.units) l)
+  step_notifying n m None e p = absurd (true≢false p.0)
+  step_notifying n m (Some u) e p =
+      let name = named_unit n u e in
       let k = kept_notified l.closed m u (kept_of n u name) (λ c. in_all (λ w. 1 ≤ length w.offer) u l.units name.member (v.all_offered c)) (not-false (may_notify m u) p.0) in
       invariant_changed l v n (notified l.closed m) (λ w. refl) p.1.0 u name k.0 k.1
 
-  step-offering : (n : ℕ) (ps : List Pair) → l.closed ≡ false → offer_in_range ps ≡ true → (o : Option UnitState) → unit_named n l.units ≡ o → Passes (offer_lines n ps l o) →
+  step_offering : (n : ℕ) (ps : List Pair) → l.closed ≡ false → offer_in_range ps ≡ true → (o : Option UnitState) → unit_named n l.units ≡ o → Passes (offer_lines n ps l o) →
       Invariant (with_units (changed n (offering ps) l.units) l)
-  step-offering n ps early h None e p = absurd (true≢false p.0)
-  step-offering n ps early h (Some u) e p =
-      let name = named-unit n u e in
+  step_offering n ps early h None e p = absurd (true≢false p.0)
+  step_offering n ps early h (Some u) e p =
+      let name = named_unit n u e in
       invariant_changed l v n (offering ps) (λ w. refl) (idle early n) u name
       (kept_offering ps u (kept_of n u name) h (not-false (rises ps) p.0) (eqb-true (summed ps) u.figures.installed (not-false (eqb (summed ps) u.figures.installed) p.1.0)))
       (λ c. absurd (both_ways l.closed early c))
@@ -418,19 +418,19 @@ Plain (confirming s) = Unit {0}
 Plain (withdrawing s) = Unit {0}
 
 pub invariant_step_plain : (l : Ledger) → Invariant l → (c : Call) → Plain c → Invariant (step l c).0
-invariant_step_plain l v (registering r) p = by_the_table Invariant (register_lines r l) l _ v (step-registering l v r)
+invariant_step_plain l v (registering r) p = by_the_table Invariant (register_lines r l) l _ v (step_registering l v r)
 invariant_step_plain l v (declaring n m) p =
     let o = unit_named n l.units in
-    by_the_table Invariant (line (not (call_in_range n m)) 1 ∷ declare_lines n m l o) l _ v (λ h. step-declaring l v n m o refl h.1)
+    by_the_table Invariant (line (not (call_in_range n m)) 1 ∷ declare_lines n m l o) l _ v (λ h. step_declaring l v n m o refl h.1)
 invariant_step_plain l v (notifying n m) p =
     let o = unit_named n l.units in
-    by_the_table Invariant (line (not (call_in_range n m)) 1 ∷ notify_lines n m l o) l _ v (λ h. step-notifying l v n m o refl h.1)
+    by_the_table Invariant (line (not (call_in_range n m)) 1 ∷ notify_lines n m l o) l _ v (λ h. step_notifying l v n m o refl h.1)
 invariant_step_plain l v (making_offer n ps) p =
     let o = unit_named n l.units in
     let b = number_in_range n && offer_in_range ps in
     by_the_table Invariant (line (not b) 1 ∷ line l.closed 2 ∷ offer_lines n ps l o) l _ v
-    (λ h. step-offering l v n ps h.1.0 (and_parts (number_in_range n) (offer_in_range ps) (not-false b h.0)).1 o refl h.1.1)
-invariant_step_plain l v (closing c) p = by_the_table Invariant (line (not (price_in_range c)) 1 ∷ line l.closed 2 ∷ []) l _ v (λ h. step-closing l v c (not-false (price_in_range c) h.0) h.1.0)
+    (λ h. step_offering l v n ps h.1.0 (and_parts (number_in_range n) (offer_in_range ps) (not-false b h.0)).1 o refl h.1.1)
+invariant_step_plain l v (closing c) p = by_the_table Invariant (line (not (price_in_range c)) 1 ∷ line l.closed 2 ∷ []) l _ v (λ h. step_closing l v c (not-false (price_in_range c) h.0) h.1.0)
 invariant_step_plain l v (selecting m t n d) p = absurd p
-invariant_step_plain l v (confirming s) p = by_the_table Invariant (settle_lines s l) l _ v (λ h. step-confirming l v s.number)
-invariant_step_plain l v (withdrawing s) p = by_the_table Invariant (settle_lines s l) l _ v (λ h. step-withdrawing l v s.number)
+invariant_step_plain l v (confirming s) p = by_the_table Invariant (settle_lines s l) l _ v (λ h. step_confirming l v s.number)
+invariant_step_plain l v (withdrawing s) p = by_the_table Invariant (settle_lines s l) l _ v (λ h. step_withdrawing l v s.number)

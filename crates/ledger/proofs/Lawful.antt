@@ -24,7 +24,7 @@ use Rattle.ledger.specs.Facts.{Facts}
 use Rattle.ledger.specs.Laws.{cost_by, NewRow, TellAlike, row_commitment, Laws}
 use Rattle.ledger.proofs.Opening.{open_lots_are_orderly}
 use Rattle.ledger.proofs.Alike.{same_standing_chooses_alike}
-use Rattle.ledger.proofs.Picking.{new-rows-permitted, new-rows-once, new-rows-are, new-rows-megawatts, costs_least}
+use Rattle.ledger.proofs.Picking.{new_rows_permitted, new_rows_once, new_rows_are, new_rows_megawatts, costs_least}
 
 -- ---- what an answer says of the table of refusals
 -- where the answer is no refusal, no line applied and the ledger became `after`
@@ -33,14 +33,14 @@ pub record Passed (ls : List Line) (before : Ledger) (after : Ledger × Answer) 
   pub becomes : by_table ls before after ≡ after
 
 module _ (a : Answer) (no_refusal : (n : ℕ) → refused n ≡ a → ⊥) (before : Ledger) where
-  passed-one : (applies : Bool) (n : ℕ) (rest : Ledger × Answer) → (cond applies (before, refused n) rest).1 ≡ a → (applies ≡ false) × (cond applies (before, refused n) rest ≡ rest)
-  passed-one true n rest h = absurd (no_refusal n h)
-  passed-one false n rest h = (refl, refl)
+  passed_one : (applies : Bool) (n : ℕ) (rest : Ledger × Answer) → (cond applies (before, refused n) rest).1 ≡ a → (applies ≡ false) × (cond applies (before, refused n) rest ≡ rest)
+  passed_one true n rest h = absurd (no_refusal n h)
+  passed_one false n rest h = (refl, refl)
 
   pub passed : (ls : List Line) (after : Ledger × Answer) → (by_table ls before after).1 ≡ a → Passed ls before after
   passed [] after h = record { none_applied = tt; becomes = refl }
   passed (x ∷ ls) after h =
-      let one = passed-one x.applies x.number (by_table ls before after) h in
+      let one = passed_one x.applies x.number (by_table ls before after) h in
       let rest = passed ls after (sym (ap (λ p. p.1) one.1) ∙ h) in
       record { none_applied = (one.0, rest.none_applied); becomes = one.1 ∙ rest.becomes }
 
@@ -65,13 +65,13 @@ module _ (l : Ledger) (m : MarketModel) (t : RuleModel) (n d : ℕ) (s : SlipFig
   same_slip : (a : SlipFigures) → slip a ≡ slip s → s ≡ a
   same_slip a h = cc
 
-  abbrev select-table : Option MarketNumber → List Line
-  select-table o = line (not (demand_in_range d)) 1 ∷ select_lines m t d l o
+  abbrev select_table : Option MarketNumber → List Line
+  select_table o = line (not (demand_in_range d)) 1 ∷ select_lines m t d l o
 
-  said-by : (o : Option MarketNumber) → market_numbered n ≡ o → (by_table (select-table o) l (selected m t d l o)).1 ≡ slip s → Said l m t n d s (by_table (select-table o) l (selected m t d l o)).0
-  said-by None is h = absurd (true≢false (passed (slip s) never l (select-table None) (selected m t d l None) h).none_applied.1.0)
-  said-by (Some k) is h =
-      let p = passed (slip s) never l (select-table (Some k)) (selected m t d l (Some k)) h in
+  said_by : (o : Option MarketNumber) → market_numbered n ≡ o → (by_table (select_table o) l (selected m t d l o)).1 ≡ slip s → Said l m t n d s (by_table (select_table o) l (selected m t d l o)).0
+  said_by None is h = absurd (true≢false (passed (slip s) never l (select_table None) (selected m t d l None) h).none_applied.1.0)
+  said_by (Some k) is h =
+      let p = passed (slip s) never l (select_table (Some k)) (selected m t d l (Some k)) h in
       let q = p.none_applied in
       record {
         market = k;
@@ -91,13 +91,13 @@ module _ (l : Ledger) (m : MarketModel) (t : RuleModel) (n d : ℕ) (s : SlipFig
       some e h = let z = eqb-false e 0 h in grind arith
 
   pub said : (step l (selecting m t n d)).1 ≡ slip s → Said l m t n d s (step l (selecting m t n d)).0
-  said h = said-by (market_numbered n) refl h
+  said h = said_by (market_numbered n) refl h
 
 -- ---- rows of one choice, whatever number and market they carry
 module _ (n n' : ℕ) (k k' : MarketNumber) where
-  same-commitment : (ts : List Taken) → map row_commitment (map (row_for n k) ts) ≡ map row_commitment (map (row_for n' k') ts)
-  same-commitment [] = refl
-  same-commitment (a ∷ ts) = ap (λ r. commitment a ∷ r) (same-commitment ts)
+  same_commitment : (ts : List Taken) → map row_commitment (map (row_for n k) ts) ≡ map row_commitment (map (row_for n' k') ts)
+  same_commitment [] = refl
+  same_commitment (a ∷ ts) = ap (λ r. commitment a ∷ r) (same_commitment ts)
 
   same_megawatts : (ts : List Taken) → megawatts_of (map (row_for n k) ts) ≡ megawatts_of (map (row_for n' k') ts)
   same_megawatts [] = refl
@@ -135,13 +135,13 @@ laws l facts m t n d s h between facts_of =
     let cost : s.cost ≡ cost_of new = ap (λ x. x.cost) a.slip_is in
     let its_number : s.number ≡ l.given + 1 = ap (λ x. x.number) a.slip_is in
     record {
-      covers_the_demand_or_all_that_is_eligible = megawatts ∙ new-rows-megawatts l facts m t k d;
+      covers_the_demand_or_all_that_is_eligible = megawatts ∙ new_rows_megawatts l facts m t k d;
       every_unit_stays_between = between;
       new = new;
       rows_are_added = ap (λ x. x.rows) a.becomes;
-      rows_are_of_lots = subst (λ i. All (NewRow (open_lots m.side l) i n) new) (sym its_number) (new-rows-are l facts m t k d n a.is_market);
-      no_lot_twice = new-rows-once l facts m t k d;
-      new_rows_are_permitted = new-rows-permitted l facts m t k d;
+      rows_are_of_lots = subst (λ i. All (NewRow (open_lots m.side l) i n) new) (sym its_number) (new_rows_are l facts m t k d n a.is_market);
+      no_lot_twice = new_rows_once l facts m t k d;
+      new_rows_are_permitted = new_rows_permitted l facts m t k d;
       slip_has_their_megawatts = megawatts;
       slip_has_their_cost = cost;
       costs_least = λ f p same. subst (λ z. z ≤ℤ cost_by f (open_lots m.side l)) (sym cost) (costs_least l facts m t k d f p (same ∙ megawatts));
@@ -157,6 +157,6 @@ laws l facts m t n d s h between facts_of =
             same_cost = ap (λ x. x.cost) b.slip_is ∙ (ap (λ x. cost_of (map (row_for i k') x)) one ∙ (same_cost i j k' k ts ∙ sym cost));
             others = new_rows m' t' k' d l';
             others_are_added = ap (λ x. x.rows) b.becomes;
-            same_lots_in_the_same_order = ap (λ x. map row_commitment (map (row_for i k') x)) one ∙ same-commitment i j k' k ts;
+            same_lots_in_the_same_order = ap (λ x. map row_commitment (map (row_for i k') x)) one ∙ same_commitment i j k' k ts;
           };
     }

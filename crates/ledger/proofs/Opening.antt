@@ -26,39 +26,39 @@ dearer_differs a b h e = omega (arith, ints)
 
 module _ (side : Side) (rows : List Row) where
   -- the lots of one unit
-  abbrev of-unit : UnitState → List Remaining
-  of-unit u = map (remaining_lot rows u) (lots side u)
+  abbrev of_unit : UnitState → List Remaining
+  of_unit u = map (remaining_lot rows u) (lots side u)
 
-  accepted-lots : (u : UnitState) → OfClosed u → All (λ r. Accepted r.figures) (of-unit u)
-  accepted-lots u c = All-map (λ r. Accepted r.figures) (remaining_lot rows u) (lots side u) (all_of (λ l. Accepted u.figures) (λ l. c.accepted) (lots side u))
+  accepted_lots : (u : UnitState) → OfClosed u → All (λ r. Accepted r.figures) (of_unit u)
+  accepted_lots u c = All-map (λ r. Accepted r.figures) (remaining_lot rows u) (lots side u) (all_of (λ l. Accepted u.figures) (λ l. c.accepted) (lots side u))
 
-  lots-differ : (u : UnitState) → OfClosed u → Pairwise Differ (of-unit u)
-  lots-differ u c =
+  lots_differ : (u : UnitState) → OfClosed u → Pairwise Differ (of_unit u)
+  lots_differ u c =
       pairwise_map Differ (remaining_lot rows u) (lots side u)
       (pairwise_weaker (λ a b. a.cost <ℤ b.cost) (λ a b. Differ (remaining_lot rows u a) (remaining_lot rows u b))
       (λ a b h. record { one_unit = λ e. refl; two_costs = λ e f. dearer_differs a.cost b.cost h f }) (lots side u) (lots_rise side u c.rising))
 
-  units-differ : (u v : UnitState) → (number u ≡ number v → ⊥) → All (λ a. All (Differ a) (of-unit v)) (of-unit u)
-  units-differ u v n =
-      All-map (λ a. All (Differ a) (of-unit v)) (remaining_lot rows u) (lots side u)
-      (all_of (λ l. All (Differ (remaining_lot rows u l)) (of-unit v))
+  units_differ : (u v : UnitState) → (number u ≡ number v → ⊥) → All (λ a. All (Differ a) (of_unit v)) (of_unit u)
+  units_differ u v n =
+      All-map (λ a. All (Differ a) (of_unit v)) (remaining_lot rows u) (lots side u)
+      (all_of (λ l. All (Differ (remaining_lot rows u l)) (of_unit v))
       (λ l. All-map (Differ (remaining_lot rows u l)) (remaining_lot rows v) (lots side v)
       (all_of (λ k. Differ (remaining_lot rows u l) (remaining_lot rows v k)) (λ k. record { one_unit = λ e. absurd (n e); two_costs = λ e f. n e }) (lots side v))) (lots side u))
 
 pub open_lots_are_orderly : OpenLotsAreOrderly
 open_lots_are_orderly side l ns cs =
-    let g = of-unit side l.rows in
+    let g = of_unit side l.rows in
     record {
-      accepted = all_joined (λ r. Accepted r.figures) g l.units (All-weaker OfClosed (λ u. All (λ r. Accepted r.figures) (g u)) (accepted-lots side l.rows) l.units cs);
+      accepted = all_joined (λ r. Accepted r.figures) g l.units (All-weaker OfClosed (λ u. All (λ r. Accepted r.figures) (g u)) (accepted_lots side l.rows) l.units cs);
       differ = pairwise_joined Differ g l.units
-          (All-weaker OfClosed (λ u. Pairwise Differ (g u)) (lots-differ side l.rows) l.units cs)
-          (pairwise_weaker (λ u v. number u ≡ number v → ⊥) (λ u v. All (λ a. All (Differ a) (g v)) (g u)) (units-differ side l.rows) l.units ns);
+          (All-weaker OfClosed (λ u. Pairwise Differ (g u)) (lots_differ side l.rows) l.units cs)
+          (pairwise_weaker (λ u v. number u ≡ number v → ⊥) (λ u v. All (λ a. All (Differ a) (g v)) (g u)) (units_differ side l.rows) l.units ns);
     }
 
 -- ---- what a unit's lots have left
 module _ (side : Side) (rows : List Row) where
-  abbrev lots-of : List UnitState → List Remaining
-  lots-of us = flat_map (of-unit side rows) us
+  abbrev lots_of : List UnitState → List Remaining
+  lots_of us = flat_map (of_unit side rows) us
 
   own : (u : UnitState) (ls : List LotFigures) → left_of (number u) (map (remaining_lot rows u) ls) ≡ sum_of (remainder (lot_stands rows (number u))) ls
   own u [] = refl
@@ -68,23 +68,23 @@ module _ (side : Side) (rows : List Row) where
   others v u n [] = refl
   others v u n (l ∷ ls) = rw (ne_eqb (number u) v n) (omega (arith, others v u n ls))
 
-  split : (v : ℕ) (u : UnitState) (us : List UnitState) → left_of v (lots-of (u ∷ us)) ≡ left_of v (of-unit side rows u) + left_of v (lots-of us)
-  split v u us = sum_of-append (λ (r : Remaining). cond (eqb (unit r) v) r.rest 0) (of-unit side rows u) (lots-of us)
+  split : (v : ℕ) (u : UnitState) (us : List UnitState) → left_of v (lots_of (u ∷ us)) ≡ left_of v (of_unit side rows u) + left_of v (lots_of us)
+  split v u us = sum_of-append (λ (r : Remaining). cond (eqb (unit r) v) r.rest 0) (of_unit side rows u) (lots_of us)
 
-  none_of : (v : ℕ) (us : List UnitState) → All (λ u. number u ≡ v → ⊥) us → left_of v (lots-of us) ≡ 0
+  none_of : (v : ℕ) (us : List UnitState) → All (λ u. number u ≡ v → ⊥) us → left_of v (lots_of us) ≡ 0
   none_of v [] h = refl
   none_of v (u ∷ us) h = omega (arith, split v u us, others v u h.0 (lots side u), none_of v us h.1)
 
   -- each unit's lots have left what the unit has left
-  lefts : (us : List UnitState) → Numbered us → All (λ u. left_of (number u) (lots-of us) ≡ left side u (lot_stands rows (number u))) us
+  lefts : (us : List UnitState) → Numbered us → All (λ u. left_of (number u) (lots_of us) ≡ left side u (lot_stands rows (number u))) us
   lefts [] ns = tt
   lefts (u ∷ us) ns = (
     omega (arith, split (number u) u us, own u (lots side u), none_of (number u) us (All-weaker (λ v. number u ≡ number v → ⊥) (λ v. number v ≡ number u → ⊥) (λ v n e. n (sym e)) us ns.0)),
     on us ns.0 (lefts us ns.1),
   )
     where
-      on : (vs : List UnitState) → All (λ v. number u ≡ number v → ⊥) vs → All (λ v. left_of (number v) (lots-of us) ≡ left side v (lot_stands rows (number v))) vs →
-          All (λ v. left_of (number v) (lots-of (u ∷ us)) ≡ left side v (lot_stands rows (number v))) vs
+      on : (vs : List UnitState) → All (λ v. number u ≡ number v → ⊥) vs → All (λ v. left_of (number v) (lots_of us) ≡ left side v (lot_stands rows (number v))) vs →
+          All (λ v. left_of (number v) (lots_of (u ∷ us)) ≡ left side v (lot_stands rows (number v))) vs
       on [] n h = tt
       on (v ∷ vs) n h = (omega (arith, split (number v) u us, others (number v) u n.0 (lots side u), h.0), on vs n.1 h.1)
 

@@ -19,8 +19,8 @@ use Rattle.markets.specs.Rules.{RuleModel}
 use Rattle.markets.specs.Remainders.{Remaining, unit, left_of, In, UnitsOf}
 use Rattle.markets.specs.Merit.{before, insert, merit}
 use Rattle.markets.specs.Choices.{takes, total, cost_of as cost-of-takes, taken_of, Within, Permitted, Taken, paired, some_taken}
-use Rattle.markets.proofs.Members.{all_in, in_all, in_shuffled, pairwise-shuffled}
-use Rattle.markets.proofs.Ranking.{merit-shuffled}
+use Rattle.markets.proofs.Members.{all_in, in_all, in_shuffled, pairwise_shuffled}
+use Rattle.markets.proofs.Ranking.{merit_shuffled}
 use Rattle.markets.proofs.Covering.{within-takes, takes_permitted}
 use Rattle.markets.proofs.Picking.{choice-total}
 use Rattle.markets.proofs.Fronts.{choice_has_full_fronts}
@@ -56,23 +56,23 @@ open_lots_keyed side l ns =
     l.units ns)
 
 pub merit_keyed : (t : RuleModel) (ls : List Remaining) → Pairwise OtherKey ls → Pairwise OtherKey (merit t ls)
-merit_keyed t ls h = pairwise-shuffled OtherKey (λ a b n e x y. n (sym e) (sym x) (sym y)) ls (merit t ls) (merit-shuffled t ls) h
+merit_keyed t ls h = pairwise_shuffled OtherKey (λ a b n e x y. n (sym e) (sym x) (sym y)) ls (merit t ls) (merit_shuffled t ls) h
 
 -- ---- sums in merit order
 -- what does not depend on the order of two neighbours is the same in merit order
 module _ {X : Type 0} (F : List Remaining → X) (swap : (a b : Remaining) (ls : List Remaining) → F (a ∷ b ∷ ls) ≡ F (b ∷ a ∷ ls))
     (more : (a : Remaining) (xs ys : List Remaining) → F xs ≡ F ys → F (a ∷ xs) ≡ F (a ∷ ys)) (t : RuleModel) where
-  insert-same : (l : Remaining) (ms : List Remaining) → F (insert t l ms) ≡ F (l ∷ ms)
-  insert-same l [] = refl
-  insert-same l (m ∷ ms) = cond_both (before t l m) (l ∷ m ∷ ms) (m ∷ insert t l ms) (λ k. F k ≡ F (l ∷ m ∷ ms))
-      (λ _. refl) (λ _. more m (insert t l ms) (l ∷ ms) (insert-same l ms) ∙ swap m l ms)
+  insert_same : (l : Remaining) (ms : List Remaining) → F (insert t l ms) ≡ F (l ∷ ms)
+  insert_same l [] = refl
+  insert_same l (m ∷ ms) = cond_both (before t l m) (l ∷ m ∷ ms) (m ∷ insert t l ms) (λ k. F k ≡ F (l ∷ m ∷ ms))
+      (λ _. refl) (λ _. more m (insert t l ms) (l ∷ ms) (insert_same l ms) ∙ swap m l ms)
 
-  pub merit-same : (ls : List Remaining) → F (merit t ls) ≡ F ls
-  merit-same [] = refl
-  merit-same (l ∷ ls) = insert-same l (merit t ls) ∙ more l (merit t ls) ls (merit-same ls)
+  pub merit_same : (ls : List Remaining) → F (merit t ls) ≡ F ls
+  merit_same [] = refl
+  merit_same (l ∷ ls) = insert_same l (merit t ls) ∙ more l (merit t ls) ls (merit_same ls)
 
 pub sum_merit : (f : Remaining → ℕ) (t : RuleModel) (ls : List Remaining) → sum_of f (merit t ls) ≡ sum_of f ls
-sum_merit f t ls = merit-same (sum_of f) (λ a b ls. omega arith) (λ a xs ys h. ap (λ n. f a + n) h) t ls
+sum_merit f t ls = merit_same (sum_of f) (λ a b ls. omega arith) (λ a xs ys h. ap (λ n. f a + n) h) t ls
 
 turned : (x y z : ℤ) → x +ℤ (y +ℤ z) ≡ y +ℤ (x +ℤ z)
 turned x y z = omega (arith, ints)
@@ -80,7 +80,7 @@ turned x y z = omega (arith, ints)
 pub cost_merit : (f : Choice) (t : RuleModel) (ls : List Remaining) → cost_by f (merit t ls) ≡ cost_by f ls
 cost_merit f t ls =
     let one : Remaining → ℤ = λ r. pos (taken_by f r) *ℤ r.cost in
-    merit-same (cost_by f) (λ a b ls. turned (one a) (one b) (cost_by f ls)) (λ a xs ys h. ap (λ z. one a +ℤ z) h) t ls
+    merit_same (cost_by f) (λ a b ls. turned (one a) (one b) (cost_by f ls)) (λ a xs ys h. ap (λ z. one a +ℤ z) h) t ls
 
 -- ---- a choice as takes, one for each lot
 pub total_by : (f : Choice) (ls : List Remaining) → total (map (taken_by f) ls) ≡ megawatts_by f ls
@@ -149,17 +149,17 @@ module _ (n : ℕ) (k : MarketNumber) where
   picked_none : (a : Remaining) (t : Taken) → t.megawatts ≡ 0 → picked a t ≡ 0
   picked_none a t z = grind (arith, nat_tests)
 
-  picked-other : (a : Remaining) (t : Taken) → OtherKey a t.lot → picked a t ≡ 0
-  picked-other a t d = grind (arith, nat_tests)
+  picked_other : (a : Remaining) (t : Taken) → OtherKey a t.lot → picked a t ≡ 0
+  picked_other a t d = grind (arith, nat_tests)
 
   picked_same : (l : Remaining) (x : ℕ) → picked l (record { lot = l; megawatts = x }) ≡ x
   picked_same l x = rw (eq-eqb (unit l) (unit l) refl, eq-eqb l.up l.up refl, eq-eqb l.down l.down refl)
 
   -- nothing is taken of a lot that is not among these
-  picked-of-others : (a : Remaining) (ls : List Remaining) (xs : List ℕ) → All (OtherKey a) ls → sum_of (picked a) (paired ls xs) ≡ 0
-  picked-of-others a [] xs h = refl
-  picked-of-others a (l ∷ ls) [] h = refl
-  picked-of-others a (l ∷ ls) (x ∷ xs) h = omega (arith, picked-other a (record { lot = l; megawatts = x }) h.0, picked-of-others a ls xs h.1)
+  picked_of_others : (a : Remaining) (ls : List Remaining) (xs : List ℕ) → All (OtherKey a) ls → sum_of (picked a) (paired ls xs) ≡ 0
+  picked_of_others a [] xs h = refl
+  picked_of_others a (l ∷ ls) [] h = refl
+  picked_of_others a (l ∷ ls) (x ∷ xs) h = omega (arith, picked_other a (record { lot = l; megawatts = x }) h.0, picked_of_others a ls xs h.1)
 
   -- of each lot is taken what its take says
   picks : (ls : List Remaining) (xs : List ℕ) → Pairwise OtherKey ls → Within ls xs → map (λ a. sum_of (picked a) (paired ls xs)) ls ≡ xs
@@ -168,35 +168,35 @@ module _ (n : ℕ) (k : MarketNumber) where
   picks (l ∷ ls) [] h w = absurd w
   picks (l ∷ ls) (x ∷ xs) h w =
       let t : Taken = record { lot = l; megawatts = x } in
-      let here : sum_of (picked l) (paired (l ∷ ls) (x ∷ xs)) ≡ x = omega (arith, picked_same l x, picked-of-others l ls xs h.0) in
-      let later : (a : Remaining) → OtherKey l a → sum_of (picked a) (paired (l ∷ ls) (x ∷ xs)) ≡ sum_of (picked a) (paired ls xs) = λ a d. omega (arith, picked-other a t (λ e i j. d (sym e) (sym i) (sym j))) in
+      let here : sum_of (picked l) (paired (l ∷ ls) (x ∷ xs)) ≡ x = omega (arith, picked_same l x, picked_of_others l ls xs h.0) in
+      let later : (a : Remaining) → OtherKey l a → sum_of (picked a) (paired (l ∷ ls) (x ∷ xs)) ≡ sum_of (picked a) (paired ls xs) = λ a d. omega (arith, picked_other a t (λ e i j. d (sym e) (sym i) (sym j))) in
       ap₂ ◌∷◌ here
       (map_same (λ a. sum_of (picked a) (paired (l ∷ ls) (x ∷ xs))) (λ a. sum_of (picked a) (paired ls xs)) ls
       (All-weaker (OtherKey l) (λ a. sum_of (picked a) (paired (l ∷ ls) (x ∷ xs)) ≡ sum_of (picked a) (paired ls xs)) later ls h.0)
       ∙ picks ls xs h.1 w.1)
 
   -- what stands of a lot by the rows of takes
-  stands-picked : (ls : List Remaining) (xs : List ℕ) (a : Remaining) → taken_by (lot_stands (rows_for n k ls xs)) a ≡ sum_of (picked a) (paired ls xs)
-  stands-picked ls xs a = sum_kept (λ r. eqb r.unit (unit a)) (at_key a.up a.down) (rows_for n k ls xs) ∙ sum_rows n k (of_key a) (picked_none a) ls xs
+  stands_picked : (ls : List Remaining) (xs : List ℕ) (a : Remaining) → taken_by (lot_stands (rows_for n k ls xs)) a ≡ sum_of (picked a) (paired ls xs)
+  stands_picked ls xs a = sum_kept (λ r. eqb r.unit (unit a)) (at_key a.up a.down) (rows_for n k ls xs) ∙ sum_rows n k (of_key a) (picked_none a) ls xs
 
-  pub picks-are-takes : (ls : List Remaining) (xs : List ℕ) → Pairwise OtherKey ls → Within ls xs → map (taken_by (lot_stands (rows_for n k ls xs))) ls ≡ xs
-  picks-are-takes ls xs h w =
+  pub picks_are_takes : (ls : List Remaining) (xs : List ℕ) → Pairwise OtherKey ls → Within ls xs → map (taken_by (lot_stands (rows_for n k ls xs))) ls ≡ xs
+  picks_are_takes ls xs h w =
       map_same (taken_by (lot_stands (rows_for n k ls xs))) (λ a. sum_of (picked a) (paired ls xs)) ls
-      (all_of (λ a. taken_by (lot_stands (rows_for n k ls xs)) a ≡ sum_of (picked a) (paired ls xs)) (stands-picked ls xs) ls)
+      (all_of (λ a. taken_by (lot_stands (rows_for n k ls xs)) a ≡ sum_of (picked a) (paired ls xs)) (stands_picked ls xs) ls)
       ∙ picks ls xs h w
 
   -- the rows of takes cost what the takes cost
-  no-cost : (x : ℕ) (c z w : ℤ) → x ≡ 0 → z ≡ w → z ≡ (pos x *ℤ c) +ℤ w
-  no-cost x c z w none same = rw none (omega (arith, ints))
+  no_cost : (x : ℕ) (c z w : ℤ) → x ≡ 0 → z ≡ w → z ≡ (pos x *ℤ c) +ℤ w
+  no_cost x c z w none same = rw none (omega (arith, ints))
 
-  pub cost-rows : (ls : List Remaining) (xs : List ℕ) → cost_of (rows_for n k ls xs) ≡ cost-of-takes ls xs
-  cost-rows [] xs = refl
-  cost-rows (l ∷ ls) [] = refl
-  cost-rows (l ∷ ls) (x ∷ xs) =
-      let ih = cost-rows ls xs in
+  pub cost_rows : (ls : List Remaining) (xs : List ℕ) → cost_of (rows_for n k ls xs) ≡ cost-of-takes ls xs
+  cost_rows [] xs = refl
+  cost_rows (l ∷ ls) [] = refl
+  cost_rows (l ∷ ls) (x ∷ xs) =
+      let ih = cost_rows ls xs in
       let ts = filter some_taken (paired ls xs) in
       cond_both (ltb 0 x) (record { lot = l; megawatts = x } ∷ ts) ts (λ rs. cost_of (map (row_for n k) rs) ≡ (pos x *ℤ l.cost) +ℤ cost-of-takes ls xs)
-      (λ _. ap (λ z. (pos x *ℤ l.cost) +ℤ z) ih) (λ e. no-cost x l.cost (cost_of (map (row_for n k) ts)) (cost-of-takes ls xs) (omega (arith, ltb-false 0 x e)) ih)
+      (λ _. ap (λ z. (pos x *ℤ l.cost) +ℤ z) ih) (λ e. no_cost x l.cost (cost_of (map (row_for n k) ts)) (cost-of-takes ls xs) (omega (arith, ltb-false 0 x e)) ih)
 
 -- ---- the units of the lots
 sum_same : {X : Type 0} (f g : X → ℕ) (xs : List X) → All (λ x. f x ≡ g x) xs → sum_of f xs ≡ sum_of g xs
@@ -223,18 +223,18 @@ none_taken f n (l ∷ ls) h = rw (ne_eqb (unit l) n h.0) (omega (arith, none_tak
 -- ---- the rows of a selection
 module _ (l : Ledger) (facts : Facts l) (m : MarketModel) where
   -- the eligible energy by number is that of the unit
-  pub energy-by-number : All (λ u. eligible_energy m l (number u) ≡ m.eligible u (standing_of l.rows (number u))) l.units
-  energy-by-number =
+  pub energy_by_number : All (λ u. eligible_energy m l (number u) ≡ m.eligible u (standing_of l.rows (number u))) l.units
+  energy_by_number =
       All-weaker (λ u. unit_named (number u) l.units ≡ Some u) (λ u. eligible_energy m l (number u) ≡ m.eligible u (standing_of l.rows (number u)))
       (λ u e. ap (energy_named m l.rows) e) l.units (names_itself l.units facts.numbered)
 
-  pub total-by-number : sum_of (eligible_energy m l) (map number l.units) ≡ total_eligible m l
-  total-by-number =
+  pub total_by_number : sum_of (eligible_energy m l) (map number l.units) ≡ total_eligible m l
+  total_by_number =
       sum_of-map (eligible_energy m l) number l.units
-      ∙ sum_same (λ u. eligible_energy m l (number u)) (λ u. m.eligible u (standing_of l.rows (number u))) l.units energy-by-number
+      ∙ sum_same (λ u. eligible_energy m l (number u)) (λ u. m.eligible u (standing_of l.rows (number u))) l.units energy_by_number
 
-  units-of-lots : UnitsOf (map number l.units) (open_lots m.side l)
-  units-of-lots =
+  units_of_lots : UnitsOf (map number l.units) (open_lots m.side l)
+  units_of_lots =
       let ns = map number l.units in
       record {
         once = pairwise_map (λ a b. a ≡ b → ⊥) number l.units facts.numbered;
@@ -242,14 +242,14 @@ module _ (l : Ledger) (facts : Facts l) (m : MarketModel) where
       }
 
   -- a permitted choice keeps within the eligible energy of every number
-  unit-within : (f : Choice) → PermittedChoice m l f → (n : ℕ) → unit_takes f n (open_lots m.side l) ≤ eligible_energy m l n
-  unit-within f p n =
+  unit_within : (f : Choice) → PermittedChoice m l f → (n : ℕ) → unit_takes f n (open_lots m.side l) ≤ eligible_energy m l n
+  unit_within f p n =
       let takes_of : ℕ → ℕ = λ k. unit_takes f k (open_lots m.side l) in
       let e : ℕ → ℕ = eligible_energy m l in
       let W : UnitState → Type 0 = λ u. takes_of (number u) ≤ m.eligible u (standing_of l.rows (number u)) in
       let E : UnitState → Type 0 = λ u. e (number u) ≡ m.eligible u (standing_of l.rows (number u)) in
       let within : All (λ u. takes_of (number u) ≤ e (number u)) l.units =
-      All-weaker (λ u. W u × E u) (λ u. takes_of (number u) ≤ e (number u)) (λ u h. omega (arith, h.0, h.1)) l.units (all_zip W E l.units p.within_eligible energy-by-number) in
+      All-weaker (λ u. W u × E u) (λ u. takes_of (number u) ≤ e (number u)) (λ u h. omega (arith, h.0, h.1)) l.units (all_zip W E l.units p.within_eligible energy_by_number) in
       elim (cases_named n l.units) [
         | inl (u, c) ↦ subst (λ k. takes_of k ≤ e k) c.numbered (in_all (λ v. takes_of (number v) ≤ e (number v)) u l.units c.member within)
         | inr none ↦ omega (arith, none_taken f n (open_lots m.side l) (all_open (λ k. k ≡ n → ⊥) m.side l none))
@@ -260,23 +260,23 @@ module _ (l : Ledger) (facts : Facts l) (m : MarketModel) where
     abbrev ranked : List Remaining
     ranked = merit t (open_lots m.side l)
 
-    ranked-keyed : Pairwise OtherKey ranked
-    ranked-keyed = merit_keyed t (open_lots m.side l) (open_lots_keyed m.side l facts.numbered)
+    ranked_keyed : Pairwise OtherKey ranked
+    ranked_keyed = merit_keyed t (open_lots m.side l) (open_lots_keyed m.side l facts.numbered)
 
     -- a permitted choice as takes of the lots in merit order
-    permitted-in-order : (f : Choice) → PermittedChoice m l f → Permitted ranked (eligible_energy m l) (map (taken_by f) ranked)
-    permitted-in-order f p = record {
-      within_remainders = within_by f ranked (all_shuffled (λ r. taken_by f r ≤ r.rest) (open_lots m.side l) ranked (merit-shuffled t (open_lots m.side l)) p.within_remainders);
-      within_eligible = λ n. omega (arith, unit-within f p n, unit_by_takes f n ranked, sum_merit (λ r. cond (eqb (unit r) n) (taken_by f r) 0) t (open_lots m.side l));
+    permitted_in_order : (f : Choice) → PermittedChoice m l f → Permitted ranked (eligible_energy m l) (map (taken_by f) ranked)
+    permitted_in_order f p = record {
+      within_remainders = within_by f ranked (all_shuffled (λ r. taken_by f r ≤ r.rest) (open_lots m.side l) ranked (merit_shuffled t (open_lots m.side l)) p.within_remainders);
+      within_eligible = λ n. omega (arith, unit_within f p n, unit_by_takes f n ranked, sum_merit (λ r. cond (eqb (unit r) n) (taken_by f r) 0) t (open_lots m.side l));
     }
 
     -- and takes of the lots in merit order that are permitted, as a choice
-    permitted-by-takes : (f : Choice) → Permitted ranked (eligible_energy m l) (map (taken_by f) ranked) → PermittedChoice m l f
-    permitted-by-takes f p = record {
-      within_remainders = all_shuffled (λ r. taken_by f r ≤ r.rest) ranked (open_lots m.side l) (IsPermutation-sym (open_lots m.side l) ranked (merit-shuffled t (open_lots m.side l))) (by_within f ranked p.within_remainders);
+    permitted_by_takes : (f : Choice) → Permitted ranked (eligible_energy m l) (map (taken_by f) ranked) → PermittedChoice m l f
+    permitted_by_takes f p = record {
+      within_remainders = all_shuffled (λ r. taken_by f r ≤ r.rest) ranked (open_lots m.side l) (IsPermutation-sym (open_lots m.side l) ranked (merit_shuffled t (open_lots m.side l))) (by_within f ranked p.within_remainders);
       within_eligible = All-weaker (λ u. eligible_energy m l (number u) ≡ m.eligible u (standing_of l.rows (number u)))
           (λ u. unit_takes f (number u) (open_lots m.side l) ≤ m.eligible u (standing_of l.rows (number u)))
-          (λ u e. omega (arith, e, p.within_eligible (number u), unit_by_takes f (number u) ranked, sum_merit (λ r. cond (eqb (unit r) (number u)) (taken_by f r) 0) t (open_lots m.side l))) l.units energy-by-number;
+          (λ u e. omega (arith, e, p.within_eligible (number u), unit_by_takes f (number u) ranked, sum_merit (λ r. cond (eqb (unit r) (number u)) (taken_by f r) 0) t (open_lots m.side l))) l.units energy_by_number;
     }
 
     module _ (k : MarketNumber) (d : ℕ) where
@@ -284,24 +284,24 @@ module _ (l : Ledger) (facts : Facts l) (m : MarketModel) where
       abbrev taken : List ℕ
       taken = takes ranked (eligible_energy m l) d
 
-      pub new-rows-are-takes : map (taken_by (lot_stands (new_rows m t k d l))) ranked ≡ taken
-      new-rows-are-takes = picks-are-takes (l.given + 1) k ranked taken ranked-keyed (within-takes ranked (eligible_energy m l) d)
+      pub new_rows_are_takes : map (taken_by (lot_stands (new_rows m t k d l))) ranked ≡ taken
+      new_rows_are_takes = picks_are_takes (l.given + 1) k ranked taken ranked_keyed (within-takes ranked (eligible_energy m l) d)
 
-      pub new-rows-permitted : PermittedChoice m l (lot_stands (new_rows m t k d l))
-      new-rows-permitted =
-          permitted-by-takes (lot_stands (new_rows m t k d l))
-          (subst (Permitted ranked (eligible_energy m l)) (sym new-rows-are-takes) (takes_permitted ranked (eligible_energy m l) d))
+      pub new_rows_permitted : PermittedChoice m l (lot_stands (new_rows m t k d l))
+      new_rows_permitted =
+          permitted_by_takes (lot_stands (new_rows m t k d l))
+          (subst (Permitted ranked (eligible_energy m l)) (sym new_rows_are_takes) (takes_permitted ranked (eligible_energy m l) d))
 
-      pub new-rows-once : Pairwise OtherLot (new_rows m t k d l)
-      new-rows-once =
+      pub new_rows_once : Pairwise OtherLot (new_rows m t k d l)
+      new_rows_once =
           let ps = paired ranked taken in
           pairwise_map OtherLot (row_for (l.given + 1) k) (filter some_taken ps)
           (pairwise_kept some_taken (λ a b. OtherKey a.lot b.lot) ps
           (pairwise_weaker (λ a b. OtherKey a.lot b.lot) (λ a b. some_taken a ≡ true → some_taken b ≡ true → OtherKey a.lot b.lot) (λ a b h _ _. h) ps
-          (pairwise_paired OtherKey ranked taken ranked-keyed)))
+          (pairwise_paired OtherKey ranked taken ranked_keyed)))
 
-      pub new-rows-are : (n : ℕ) → market_numbered n ≡ Some k → All (NewRow (open_lots m.side l) (l.given + 1) n) (new_rows m t k d l)
-      new-rows-are n is =
+      pub new_rows_are : (n : ℕ) → market_numbered n ≡ Some k → All (NewRow (open_lots m.side l) (l.given + 1) n) (new_rows m t k d l)
+      new_rows_are n is =
           let O = open_lots m.side l in
           let ps = paired ranked taken in
           let A : Taken → Type 0 = λ a. In a.lot O in
@@ -317,24 +317,24 @@ module _ (l : Ledger) (facts : Facts l) (m : MarketModel) where
             its_market = is;
             open_now = refl;
           }) (filter some_taken ps)
-          (all_zip A B (filter some_taken ps) (all_kept_by some_taken A ps (all_paired (λ r. In r O) ranked taken (in_shuffled O ranked (merit-shuffled t O)))) (kept_by_passes some_taken ps)))
+          (all_zip A B (filter some_taken ps) (all_kept_by some_taken A ps (all_paired (λ r. In r O) ranked taken (in_shuffled O ranked (merit_shuffled t O)))) (kept_by_passes some_taken ps)))
 
       -- ---- megawatts and cost
-      pub megawatts-are-taken : megawatts_of (new_rows m t k d l) ≡ total taken
-      megawatts-are-taken = sum_of-map (λ r. r.megawatts) (row_for (l.given + 1) k) (filter some_taken (paired ranked taken)) ∙ choice-total ranked (eligible_energy m l) d
+      pub megawatts_are_taken : megawatts_of (new_rows m t k d l) ≡ total taken
+      megawatts_are_taken = sum_of-map (λ r. r.megawatts) (row_for (l.given + 1) k) (filter some_taken (paired ranked taken)) ∙ choice-total ranked (eligible_energy m l) d
 
-      pub cost-is-taken : cost_of (new_rows m t k d l) ≡ cost-of-takes ranked taken
-      cost-is-taken = cost-rows (l.given + 1) k ranked taken
+      pub cost_is_taken : cost_of (new_rows m t k d l) ≡ cost-of-takes ranked taken
+      cost_is_taken = cost_rows (l.given + 1) k ranked taken
 
-      pub new-rows-megawatts : megawatts_of (new_rows m t k d l) ≡ min d (total_eligible m l)
-      new-rows-megawatts =
+      pub new_rows_megawatts : megawatts_of (new_rows m t k d l) ≡ min d (total_eligible m l)
+      new_rows_megawatts =
           let O = open_lots m.side l in
           let P : UnitState → Type 0 = λ u. Placed u (lot_stands l.rows (number u)) in
           let K : UnitState → Type 0 = λ u. Known u l.rows in
           let fits = eligible_is_left m l facts.numbered (all_zip P K l.units facts.placed facts.known) in
-          megawatts-are-taken
-          ∙ (choice_covers t (map number l.units) O (eligible_energy m l) d units-of-lots (All-map (λ n. eligible_energy m l n ≤ left_of n O) number l.units fits)
-          ∙ ap (min d) total-by-number)
+          megawatts_are_taken
+          ∙ (choice_covers t (map number l.units) O (eligible_energy m l) d units_of_lots (All-map (λ n. eligible_energy m l n ≤ left_of n O) number l.units fits)
+          ∙ ap (min d) total_by_number)
 
       -- every permitted choice of that total costs at least as much
       pub costs_least : (f : Choice) → PermittedChoice m l f → megawatts_by f (open_lots m.side l) ≡ megawatts_of (new_rows m t k d l) → cost_of (new_rows m t k d l) ≤ℤ cost_by f (open_lots m.side l)
@@ -342,23 +342,23 @@ module _ (l : Ledger) (facts : Facts l) (m : MarketModel) where
           let O = open_lots m.side l in
           let e = eligible_energy m l in
           let ys = map (taken_by f) ranked in
-          let totals : total ys ≡ total taken = total_by f ranked ∙ (sum_merit (taken_by f) t O ∙ (same ∙ megawatts-are-taken)) in
-          let least : cost-of-takes ranked taken ≤ℤ cost-of-takes ranked ys = full_fronts_cost_least ranked e taken ys (takes_permitted ranked e d) (choice_has_full_fronts t O e d) (permitted-in-order f p) totals in
+          let totals : total ys ≡ total taken = total_by f ranked ∙ (sum_merit (taken_by f) t O ∙ (same ∙ megawatts_are_taken)) in
+          let least : cost-of-takes ranked taken ≤ℤ cost-of-takes ranked ys = full_fronts_cost_least ranked e taken ys (takes_permitted ranked e d) (choice_has_full_fronts t O e d) (permitted_in_order f p) totals in
           let theirs : cost-of-takes ranked ys ≡ cost_by f O = cost_by-takes f ranked ∙ cost_merit f t O in
-          rw (cost-is-taken, ← theirs) least
+          rw (cost_is_taken, ← theirs) least
 
       -- ---- the rows as a choice: its megawatts and its cost are theirs
-      pub megawatts-by-rows : megawatts_by (lot_stands (new_rows m t k d l)) (open_lots m.side l) ≡ megawatts_of (new_rows m t k d l)
-      megawatts-by-rows =
+      pub megawatts_by_rows : megawatts_by (lot_stands (new_rows m t k d l)) (open_lots m.side l) ≡ megawatts_of (new_rows m t k d l)
+      megawatts_by_rows =
           let f = lot_stands (new_rows m t k d l) in
-          sym (sum_merit (taken_by f) t (open_lots m.side l)) ∙ (sym (total_by f ranked) ∙ (ap total new-rows-are-takes ∙ sym megawatts-are-taken))
+          sym (sum_merit (taken_by f) t (open_lots m.side l)) ∙ (sym (total_by f ranked) ∙ (ap total new_rows_are_takes ∙ sym megawatts_are_taken))
 
-      pub cost-by-rows : cost_by (lot_stands (new_rows m t k d l)) (open_lots m.side l) ≡ cost_of (new_rows m t k d l)
-      cost-by-rows =
+      pub cost_by_rows : cost_by (lot_stands (new_rows m t k d l)) (open_lots m.side l) ≡ cost_of (new_rows m t k d l)
+      cost_by_rows =
           let f = lot_stands (new_rows m t k d l) in
-          sym (cost_merit f t (open_lots m.side l)) ∙ (sym (cost_by-takes f ranked) ∙ (ap (cost-of-takes ranked) new-rows-are-takes ∙ sym cost-is-taken))
+          sym (cost_merit f t (open_lots m.side l)) ∙ (sym (cost_by-takes f ranked) ∙ (ap (cost-of-takes ranked) new_rows_are_takes ∙ sym cost_is_taken))
 
-      pub unit-takes-by-rows : (n : ℕ) → unit_takes (lot_stands (new_rows m t k d l)) n (open_lots m.side l) ≡ taken_of n ranked taken
-      unit-takes-by-rows n =
+      pub unit_takes_by_rows : (n : ℕ) → unit_takes (lot_stands (new_rows m t k d l)) n (open_lots m.side l) ≡ taken_of n ranked taken
+      unit_takes_by_rows n =
           let f = lot_stands (new_rows m t k d l) in
-          sym (sum_merit (λ r. cond (eqb (unit r) n) (taken_by f r) 0) t (open_lots m.side l)) ∙ (sym (unit_by_takes f n ranked) ∙ ap (taken_of n ranked) new-rows-are-takes)
+          sym (sum_merit (λ r. cond (eqb (unit r) n) (taken_by f r) 0) t (open_lots m.side l)) ∙ (sym (unit_by_takes f n ranked) ∙ ap (taken_of n ranked) new_rows_are_takes)

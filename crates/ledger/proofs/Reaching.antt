@@ -121,30 +121,30 @@ RowsFacts = (l : Ledger) → Facts l → (m : MarketModel) (t : RuleModel) (k : 
     PermittedChoice m l (lot_stands (new_rows m t k d l)) × (All (NewRow (open_lots m.side l) (l.given + 1) n) (new_rows m t k d l) × Pairwise OtherLot (new_rows m t k d l))
 
 module _ (rows_facts : RowsFacts) where
-  selecting-keeps : (l : Ledger) → Invariant l → (m : MarketModel) (t : RuleModel) (n d : ℕ) (o : Option MarketNumber) → market_numbered n ≡ o → Passes (select_lines m t d l o) → Invariant (selected m t d l o).0
-  selecting-keeps l v m t n d None e p = v
-  selecting-keeps l v m t n d (Some k) e p =
+  selecting_keeps : (l : Ledger) → Invariant l → (m : MarketModel) (t : RuleModel) (n d : ℕ) (o : Option MarketNumber) → market_numbered n ≡ o → Passes (select_lines m t d l o) → Invariant (selected m t d l o).0
+  selecting_keeps l v m t n d None e p = v
+  selecting_keeps l v m t n d (Some k) e p =
       let closed = not-false l.closed p.1.0 in
       let new = new_rows m t k d l in
       let f = rows_facts l (facts l v closed) m t k d n e in
       let room = ltb-false 512 (length l.rows + length (selection m t d l)) p.1.1.1.1.1.0 in
       invariant_selected l v closed m p.1.1.0 n new f.0 f.1.0 f.1.1 (omega (arith, length-map (selection m t d l) (row_for (l.given + 1) k))) (leb-false 65535 l.given p.1.1.1.1.0)
 
-  pub invariant-step : (l : Ledger) → Invariant l → (c : Call) → Invariant (step l c).0
-  invariant-step l v (registering r) = invariant_step_plain l v (registering r) tt
-  invariant-step l v (declaring n m) = invariant_step_plain l v (declaring n m) tt
-  invariant-step l v (notifying n m) = invariant_step_plain l v (notifying n m) tt
-  invariant-step l v (making_offer n ps) = invariant_step_plain l v (making_offer n ps) tt
-  invariant-step l v (closing c) = invariant_step_plain l v (closing c) tt
-  invariant-step l v (selecting m t n d) =
+  pub invariant_step : (l : Ledger) → Invariant l → (c : Call) → Invariant (step l c).0
+  invariant_step l v (registering r) = invariant_step_plain l v (registering r) tt
+  invariant_step l v (declaring n m) = invariant_step_plain l v (declaring n m) tt
+  invariant_step l v (notifying n m) = invariant_step_plain l v (notifying n m) tt
+  invariant_step l v (making_offer n ps) = invariant_step_plain l v (making_offer n ps) tt
+  invariant_step l v (closing c) = invariant_step_plain l v (closing c) tt
+  invariant_step l v (selecting m t n d) =
       let o = market_numbered n in
-      by_the_table Invariant (line (not (demand_in_range d)) 1 ∷ select_lines m t d l o) l (selected m t d l o) v (λ p. selecting-keeps l v m t n d o refl p.1)
-  invariant-step l v (confirming s) = invariant_step_plain l v (confirming s) tt
-  invariant-step l v (withdrawing s) = invariant_step_plain l v (withdrawing s) tt
+      by_the_table Invariant (line (not (demand_in_range d)) 1 ∷ select_lines m t d l o) l (selected m t d l o) v (λ p. selecting_keeps l v m t n d o refl p.1)
+  invariant_step l v (confirming s) = invariant_step_plain l v (confirming s) tt
+  invariant_step l v (withdrawing s) = invariant_step_plain l v (withdrawing s) tt
 
-  pub invariant-run : (cs : List Call) (l : Ledger) → Invariant l → Invariant (run l cs).0
-  invariant-run [] l v = v
-  invariant-run (c ∷ cs) l v = invariant-run cs (step l c).0 (invariant-step l v c)
+  pub invariant_run : (cs : List Call) (l : Ledger) → Invariant l → Invariant (run l cs).0
+  invariant_run [] l v = v
+  invariant_run (c ∷ cs) l v = invariant_run cs (step l c).0 (invariant_step l v c)
 
-  pub invariant-reached : (l : Ledger) → Reachable l → Invariant l
-  invariant-reached l h = ∥∥₁_elim h (invariant_prop l) (λ k. subst Invariant k.1 (invariant-run k.0 empty invariant_empty))
+  pub invariant_reached : (l : Ledger) → Reachable l → Invariant l
+  invariant_reached l h = ∥∥₁_elim h (invariant_prop l) (λ k. subst Invariant k.1 (invariant_run k.0 empty invariant_empty))

@@ -1,5 +1,5 @@
 -- The calls: a plain machine that works the rules from the calls' arguments alone.
-use Rattle.std.specs.Prelude.{ℕ, ◌+◌, Bool, true, false, cond, not, ◌&&◌, List, [], ◌∷◌, ◌++◌, map, length, ℤ, is_some, Some, None, Option, ◌==◌, nat_le, nat_lt}
+use Rattle.std.specs.Prelude.{ℕ, ◌+◌, Bool, true, cond, not, ◌&&◌, List, [], ◌∷◌, ◌++◌, map, length, ℤ, is_some, Some, None, Option, ◌==◌, nat_le, nat_lt}
 use Rattle.units.specs.declared.figures.Registration.{Registration}
 use Rattle.units.specs.declared.pair.Pair.{Pair}
 use Rattle.units.specs.declared.side.MarketNumber.{MarketNumber}
@@ -9,7 +9,6 @@ use Rattle.units.specs.Sides.{side_of, same_side, market_numbered}
 use Rattle.units.specs.Units.{UnitState, new_unit, may_declare, declared, may_notify, notified, offering, closed_at}
 use Rattle.markets.specs.Models.{MarketModel}
 use Rattle.markets.specs.Rules.{RuleModel}
-use Rattle.ledger.specs.declared.row.Row.{Row}
 use Rattle.ledger.specs.declared.slip.SlipFigures.{SlipFigures}
 use Rattle.ledger.specs.Ledger.{Ledger, with_units, with_rows, unit_named, changed, has_rows}
 use Rattle.ledger.specs.Selections.{total_eligible}

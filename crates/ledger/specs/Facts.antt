@@ -1,5 +1,4 @@
 -- What a selection may count on: the facts of a closed ledger from which the laws of choosing speak.
-use Rattle.std.specs.Prelude.{List}
 use Rattle.std.specs.List.{AllByRecursion as All}
 use Rattle.lots.specs.Standings.{OfClosed, Placed}
 use Rattle.ledger.specs.Ledger.{Ledger}

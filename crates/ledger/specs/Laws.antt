@@ -1,5 +1,5 @@
 -- What every accepted selection keeps: coverage, least cost and equal commitments.
-use Rattle.std.specs.Prelude.{◌≡◌, ℕ, ◌+◌, ◌<◌, ◌≤◌, min, Bool, true, cond, List, [], ◌∷◌, ◌++◌, map, ℤ, pos, ◌+ℤ◌, ◌*ℤ◌, ◌≤ℤ◌, Some, ◌==◌, ◌≢◌}
+use Rattle.std.specs.Prelude.{◌≡◌, ℕ, ◌≤◌, min, cond, List, [], ◌∷◌, ◌++◌, map, ℤ, pos, ◌+ℤ◌, ◌*ℤ◌, ◌≤ℤ◌, Some, ◌==◌, ◌≢◌}
 use Rattle.std.specs.List.{AllByRecursion as All}
 use Rattle.units.specs.declared.figures.Figures.{Figures}
 use Rattle.units.specs.Units.{UnitState}
@@ -17,7 +17,7 @@ use Rattle.ledger.specs.declared.slip.SlipFigures.{SlipFigures}
 use Rattle.ledger.specs.Ledger.{Ledger}
 use Rattle.ledger.specs.Selections.{number, lot_stands, standing_of, open_lots, total_eligible, SameStanding}
 use Rattle.ledger.specs.Selecting.{megawatts_of, cost_of}
-use Rattle.ledger.specs.Calls.{Call, selecting, Answer, slip, step}
+use Rattle.ledger.specs.Calls.{selecting, slip, step}
 use Rattle.ledger.specs.Reach.{Reachable}
 
 -- ---- permitted choices

@@ -1,5 +1,5 @@
 -- What a selection sees of a ledger: what stands of each lot, what is left, and what is eligible.
-use Rattle.std.specs.Prelude.{◌≡◌, ℕ, ◌≤◌, Bool, cond, not, ◌&&◌, ◌⊎◌, List, [], ◌∷◌, map, Some, None, filter, Option, ◌==◌, ◌≢◌, nat_eq}
+use Rattle.std.specs.Prelude.{◌≡◌, ℕ, Bool, cond, not, ◌&&◌, ◌⊎◌, List, [], ◌∷◌, map, Some, None, filter, Option, ◌==◌, ◌≢◌, nat_eq}
 use Rattle.std.specs.List.{flat_map, AllByRecursion as All}
 use Rattle.units.specs.declared.side.Side.{Side}
 use Rattle.units.specs.declared.side.Side.TheVariants.{Up, Down, Band}
@@ -7,9 +7,9 @@ use Rattle.units.specs.Units.{UnitState}
 use Rattle.lots.specs.declared.standing.Standing.{Standing}
 use Rattle.lots.specs.Sums.{sum_of, Pairwise}
 use Rattle.lots.specs.Lots.{LotFigures, lots}
-use Rattle.lots.specs.Standings.{Stands, remainder, stood, standing, OfClosed, Placed}
+use Rattle.lots.specs.Standings.{Stands, remainder}
 use Rattle.markets.specs.Models.{MarketModel}
-use Rattle.markets.specs.Remainders.{Remaining, left_of, In, Orderly}
+use Rattle.markets.specs.Remainders.{Remaining, In}
 use Rattle.ledger.specs.declared.row.Row.{Row}
 use Rattle.ledger.specs.Ledger.{Ledger, unit_named}
 

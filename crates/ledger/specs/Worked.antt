@@ -2,7 +2,7 @@
 use Rattle.std.specs.Prelude.{ℕ, Bool, true, false, ◌&&◌, List, [], ◌∷◌, ◌++◌, map, ℤ, pos, negsuc, Some, None, Option, ◌==◌}
 use Rattle.units.specs.declared.figures.Registration.{Registration}
 use Rattle.units.specs.declared.side.MarketNumber.{MarketNumber}
-use Rattle.units.specs.declared.side.MarketNumber.TheVariants.{Band, FastUp, FastDown, SlowUp, SlowDown}
+use Rattle.units.specs.declared.side.MarketNumber.TheVariants.{Band, FastUp, FastDown}
 use Rattle.units.specs.Pairs.{pair}
 use Rattle.units.specs.Sides.{market_number}
 use Rattle.units.specs.Units.{UnitState}

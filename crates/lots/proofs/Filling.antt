@@ -70,19 +70,19 @@ added f now lot false = sym (append-nil (map f now))
 
 module _ {L : Type 0} {f : L → LotFigures} where
   -- nothing is listed yet, or only what was before
-  pub still-none : {parts rest : List LotFigures} {now : List L} → now ≡ [] → rest ≡ parts → Still f (filter some parts) rest now
-  still-none {parts} {rest} {now} e r = record { is = ap (λ ls. map f ls ++ filter some rest) e ∙ ap (filter some) r }
+  pub still_none : {parts rest : List LotFigures} {now : List L} → now ≡ [] → rest ≡ parts → Still f (filter some parts) rest now
+  still_none {parts} {rest} {now} e r = record { is = ap (λ ls. map f ls ++ filter some rest) e ∙ ap (filter some) r }
 
   pub still_after : {parts rest : List LotFigures} {now : List L} → rest ≡ parts → Still f (map f now ++ filter some parts) rest now
   still_after {parts} {rest} {now} r = record { is = ap (λ ls. map f now ++ filter some ls) r }
 
   module _ {all rest : List LotFigures} {now : List L} where
-    pub still-all : Still f all rest now → rest ≡ [] → map f now ≡ all
-    still-all s e = sym (append-nil (map f now)) ∙ (ap (λ r. map f now ++ filter some r) (sym e) ∙ s.is)
+    pub still_all : Still f all rest now → rest ≡ [] → map f now ≡ all
+    still_all s e = sym (append-nil (map f now)) ∙ (ap (λ r. map f now ++ filter some r) (sym e) ∙ s.is)
 
     -- a row is listed
-    pub still-row : (row : List LotFigures) {rest' : List LotFigures} {now' : List L} → Still f all rest now → rest ≡ row ++ rest' → map f now' ≡ map f now ++ filter some row → Still f all rest' now'
-    still-row row {rest'} {now'} s e a =
+    pub still_row : (row : List LotFigures) {rest' : List LotFigures} {now' : List L} → Still f all rest now → rest ≡ row ++ rest' → map f now' ≡ map f now ++ filter some row → Still f all rest' now'
+    still_row row {rest'} {now'} s e a =
         let k : filter some rest ≡ filter some row ++ filter some rest' = ap (filter some) e ∙ filter-append some row rest' in
         record { is = ap (λ r. r ++ filter some rest') a ∙ (append_assoc (map f now) (filter some row) (filter some rest') ∙ (ap (λ r. map f now ++ r) (sym k) ∙ s.is)) }
 
@@ -91,7 +91,7 @@ module _ {L : Type 0} {f : L → LotFigures} where
         now' ≡ cond (ltb 0 size) (now ++ (lot ∷ [])) now → Still f all rest' now'
     still_one {l} {rest'} {now'} s e lot size m z a =
         let w : map f now' ≡ map f now ++ filter some (f lot ∷ []) = ap (map f) a ∙ (added f now lot (ltb 0 size) ∙ ap (λ k. map f now ++ cond (ltb 0 k) (f lot ∷ []) []) z) in
-        still-row (f lot ∷ []) s (e ∙ ap (λ x. x ∷ rest') (sym m)) w
+        still_row (f lot ∷ []) s (e ∙ ap (λ x. x ∷ rest') (sym m)) w
 
 size_by_way : (w : Way) (pair size : ℕ) (cost : ℤ) → size ≡ (way_figures w pair size cost).size
 size_by_way Upward pair size cost = refl

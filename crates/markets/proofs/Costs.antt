@@ -49,14 +49,14 @@ weighed_none c (l ∷ ls) low (x ∷ xs) =
 
 -- ---- where every front of xs holds as much as that of ys
 module _ (ls : List Remaining) (xs ys : List ℕ) (fronts : (c : ℤ) → front c ls ys ≤ front c ls xs) where
-  weighed-ahead : (c : ℤ) → All (λ l. c ≤ℤ l.cost) ls → (n : ℕ) → weighed (c +ℤ pos n) ls ys ≤ weighed (c +ℤ pos n) ls xs
-  weighed-ahead c low zero =
+  weighed_ahead : (c : ℤ) → All (λ l. c ≤ℤ l.cost) ls → (n : ℕ) → weighed (c +ℤ pos n) ls ys ≤ weighed (c +ℤ pos n) ls xs
+  weighed_ahead c low zero =
       let same : c +ℤ pos 0 ≡ c = omega (arith, ints) in
       rw same (omega (arith, weighed_none c ls low ys))
-  weighed-ahead c low (suc n) =
+  weighed_ahead c low (suc n) =
       let d = c +ℤ pos n in
       let next : c +ℤ pos (suc n) ≡ d +ℤ pos 1 = omega (arith, ints) in
-      omega (arith, weighed-ahead c low n, fronts d, weighed_more d (c +ℤ pos (suc n)) next ls xs, weighed_more d (c +ℤ pos (suc n)) next ls ys)
+      omega (arith, weighed_ahead c low n, fronts d, weighed_more d (c +ℤ pos (suc n)) next ls xs, weighed_more d (c +ℤ pos (suc n)) next ls ys)
 
 -- ---- above all costs
 -- b is above this cost and its opposite
@@ -92,5 +92,5 @@ full_fronts_cost_least ls eligible xs ys px full py same =
     let fronts : (c : ℤ) → front c ls ys ≤ front c ls xs = full ys py same in
     let low : All (λ l. c ≤ℤ l.cost) ls = All-weaker (Under b) (λ l. c ≤ℤ l.cost) (λ l h. omega (arith, ints)) ls (bounded ls) in
     let top : c +ℤ pos (suc b + b) ≡ pos b = omega (arith, ints) in
-    let ahead : weighed (pos b) ls ys ≤ weighed (pos b) ls xs = rw top at (weighed-ahead ls xs ys fronts c low (suc b + b)) in
+    let ahead : weighed (pos b) ls ys ≤ weighed (pos b) ls xs = rw top at (weighed_ahead ls xs ys fronts c low (suc b + b)) in
     omega (arith, ints, ahead, weighed_all b ls (bounded ls) xs px.within_remainders, weighed_all b ls (bounded ls) ys py.within_remainders, ap (λ n. b * n) same)

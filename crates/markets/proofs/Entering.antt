@@ -55,16 +55,16 @@ entered-lots cs new = take (25 * cs.count) cs.lots ++ (new ++ drop (25 * cs.coun
 
 -- what G gives for each unit and its lots
 module _ {L Y : Type 0} (G : Candidate → List (Left L) → Y) where
-  each-kept : (T ys : List (Left L)) (start p : ℕ) (cs : List Candidate) → start ≤ length T → All (λ c. c.count ≤ 25) cs → 25 * (p + length cs) ≤ start →
+  each_kept : (T ys : List (Left L)) (start p : ℕ) (cs : List Candidate) → start ≤ length T → All (λ c. c.count ≤ 25) cs → 25 * (p + length cs) ≤ start →
       each_from (λ q c. G c (own_lots (take start T ++ ys) q c)) p cs ≡ each_from (λ q c. G c (own_lots T q c)) p cs
-  each-kept T ys start p [] long few h = refl
-  each-kept T ys start p (c ∷ cs) long few h =
-      ap₂ ◌∷◌ (ap (G c) (own_kept T ys start p c long few.0 (omega arith))) (each-kept T ys start (p + 1) cs long few.1 (omega arith))
+  each_kept T ys start p [] long few h = refl
+  each_kept T ys start p (c ∷ cs) long few h =
+      ap₂ ◌∷◌ (ap (G c) (own_kept T ys start p c long few.0 (omega arith))) (each_kept T ys start (p + 1) cs long few.1 (omega arith))
 
-  pub each-added : (cs : Candidates L) (f : Figures) (e : ℕ) (new : List (Left L)) → cs.count < 32 →
+  pub each_added : (cs : Candidates L) (f : Figures) (e : ℕ) (new : List (Left L)) → cs.count < 32 →
       each_from (λ q c. G c (own_lots (entered-lots cs new) q c)) 0 (units_in cs ++ entered f e (length new) ∷ [])
       ≡ each_from (λ q c. G c (own_lots cs.lots q c)) 0 (units_in cs) ++ (G (entered f e (length new)) new ∷ [])
-  each-added cs f e new h =
+  each_added cs f e new h =
       let n : length (units_in cs) ≡ cs.count = simp length-take (omega (arith, cs.within, cs.all_units)) in
       let long : 25 * cs.count ≤ length cs.lots = omega (arith, cs.within, cs.all_lots) in
       let behind = new ++ drop (25 * cs.count + length new) cs.lots in
@@ -72,6 +72,6 @@ module _ {L Y : Type 0} (G : Candidate → List (Left L) → Y) where
       let c = entered f e (length new) in
       each_push (λ q c. G c (own_lots (entered-lots cs new) q c)) 0 (units_in cs) c
       ∙ ap₂ (λ qs q. qs ++ q ∷ [])
-      (each-kept cs.lots behind (25 * cs.count) 0 (units_in cs) long (All-take (λ c. c.count ≤ 25) cs.count cs.units (all_few cs.units cs.few)) (omega (arith, n)))
+      (each_kept cs.lots behind (25 * cs.count) 0 (units_in cs) long (All-take (λ c. c.count ≤ 25) cs.count cs.units (all_few cs.units cs.few)) (omega (arith, n)))
       (ap (G c) (ap (λ j. own_lots (entered-lots cs new) j c) (omega (arith, n))
       ∙ own_new (take (25 * cs.count) cs.lots) new (drop (25 * cs.count + length new) cs.lots) cs.count e f front))

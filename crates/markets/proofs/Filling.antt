@@ -43,8 +43,8 @@ pub record SoFar {L : Type 0} (rule : RuleModel) (meant : L → LotFigures) (sta
   pub plan : Sound meant start → commitments meant r ++ planned rule meant now unfilled ≡ planned rule meant start demand
 
 module _ {L : Type 0} (rule : RuleModel) (meant : L → LotFigures) (start : Candidates L) (demand : ℕ) where
-  pub so-far-none : (r : Choice L) → chosen_in r ≡ [] → r.count ≡ 0 → r.megawatts ≡ 0 → SoFar rule meant start start demand demand r
-  so-far-none r e n m = record {
+  pub so_far_none : (r : Choice L) → chosen_in r ≡ [] → r.count ≡ 0 → r.megawatts ≡ 0 → SoFar rule meant start start demand demand r
+  so_far_none r e n m = record {
     room = omega (arith, few_wait meant start);
     whole = omega arith;
     summed = m ∙ sym (ap (sum_of (λ c. c.megawatts)) e);
@@ -53,14 +53,14 @@ module _ {L : Type 0} (rule : RuleModel) (meant : L → LotFigures) (start : Can
   }
 
   -- t put after xs, unless it is of 0 megawatts
-  more-planned : (b : Bool) (xs : List (Chosen L)) (t : Chosen L) (cs : List Commitment) →
+  more_planned : (b : Bool) (xs : List (Chosen L)) (t : Chosen L) (cs : List Commitment) →
       map (commitment_in meant) (cond b (xs ++ t ∷ []) xs) ++ cs ≡ map (commitment_in meant) xs ++ cond b (commitment_in meant t ∷ cs) cs
-  more-planned true xs t cs = ap (λ ys. ys ++ cs) (map-append (commitment_in meant) xs (t ∷ [])) ∙ append_assoc (map (commitment_in meant) xs) (commitment_in meant t ∷ []) cs
-  more-planned false xs t cs = refl
+  more_planned true xs t cs = ap (λ ys. ys ++ cs) (map-append (commitment_in meant) xs (t ∷ [])) ∙ append_assoc (map (commitment_in meant) xs) (commitment_in meant t ∷ []) cs
+  more_planned false xs t cs = refl
 
-  more-summed : (xs : List (Chosen L)) (t : Chosen L) →
+  more_summed : (xs : List (Chosen L)) (t : Chosen L) →
       sum_of (λ (c : Chosen L). c.megawatts) (cond (ltb 0 t.megawatts) (xs ++ t ∷ []) xs) ≡ sum_of (λ (c : Chosen L). c.megawatts) xs + t.megawatts
-  more-summed xs t = cond_both (ltb 0 t.megawatts) (xs ++ t ∷ []) xs (λ ys. sum_of (λ (c : Chosen L). c.megawatts) ys ≡ sum_of (λ (c : Chosen L). c.megawatts) xs + t.megawatts)
+  more_summed xs t = cond_both (ltb 0 t.megawatts) (xs ++ t ∷ []) xs (λ ys. sum_of (λ (c : Chosen L). c.megawatts) ys ≡ sum_of (λ (c : Chosen L). c.megawatts) xs + t.megawatts)
       (λ _. omega (arith, sum_of-append (λ (c : Chosen L). c.megawatts) xs (t ∷ []))) (λ h. omega (arith, ltb-false 0 t.megawatts h))
 
   pub so_far_more : (now now' : Candidates L) (unfilled : ℕ) (r r' : Choice L) (t : Chosen L) → SoFar rule meant start now demand unfilled r → Turn rule meant unfilled now now' t →
@@ -69,22 +69,22 @@ module _ {L : Type 0} (rule : RuleModel) (meant : L → LotFigures) (start : Can
   so_far_more now now' unfilled r r' t so one e n m = record {
     room = omega (arith, so.room, one.fewer);
     whole = omega (arith, so.whole, one.within);
-    summed = m ∙ (ap (λ k. k + t.megawatts) so.summed ∙ sym (ap (sum_of (λ c. c.megawatts)) e ∙ more-summed (chosen_in r) t));
+    summed = m ∙ (ap (λ k. k + t.megawatts) so.summed ∙ sym (ap (sum_of (λ c. c.megawatts)) e ∙ more_summed (chosen_in r) t));
     still_sound = λ s. one.still_sound (so.still_sound s);
     plan = λ s.
         let later = planned rule meant now' (unfilled - t.megawatts) in
         ap (λ xs. map (commitment_in meant) xs ++ later) e
-        ∙ (more-planned (ltb 0 t.megawatts) (chosen_in r) t later
+        ∙ (more_planned (ltb 0 t.megawatts) (chosen_in r) t later
         ∙ (ap (λ cs. commitments meant r ++ cs) (sym (one.onward (so.still_sound s))) ∙ so.plan s));
   }
 
   -- nothing more is planned
-  pub so-far-all : (now : Candidates L) (unfilled : ℕ) (r : Choice L) → SoFar rule meant start now demand unfilled r → planned rule meant now unfilled ≡ [] →
+  pub so_far_all : (now : Candidates L) (unfilled : ℕ) (r : Choice L) → SoFar rule meant start now demand unfilled r → planned rule meant now unfilled ≡ [] →
       Sound meant start → commitments meant r ≡ planned rule meant start demand
-  so-far-all now unfilled r so e s = sym (append-nil (commitments meant r)) ∙ (ap (λ cs. commitments meant r ++ cs) (sym e) ∙ so.plan s)
+  so_far_all now unfilled r so e s = sym (append-nil (commitments meant r)) ∙ (ap (λ cs. commitments meant r ++ cs) (sym e) ∙ so.plan s)
 
-  pub plan-filled : (now : Candidates L) (unfilled : ℕ) → unfilled ≡ 0 → planned rule meant now unfilled ≡ []
-  plan-filled now unfilled z = ap (planned rule meant now) z ∙ ap (map commitment) (choice_none (merit rule (waiting meant now)) (energy now))
+  pub plan_filled : (now : Candidates L) (unfilled : ℕ) → unfilled ≡ 0 → planned rule meant now unfilled ≡ []
+  plan_filled now unfilled z = ap (planned rule meant now) z ∙ ap (map commitment) (choice_none (merit rule (waiting meant now)) (energy now))
 
-  pub plan-empty : (now : Candidates L) (unfilled : ℕ) → waiting meant now ≡ [] → planned rule meant now unfilled ≡ []
-  plan-empty now unfilled e = ap (λ ls. map commitment (choice (merit rule ls) (energy now) unfilled)) e
+  pub plan_empty : (now : Candidates L) (unfilled : ℕ) → waiting meant now ≡ [] → planned rule meant now unfilled ≡ []
+  plan_empty now unfilled e = ap (λ ls. map commitment (choice (merit rule ls) (energy now) unfilled)) e

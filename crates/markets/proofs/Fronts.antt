@@ -10,7 +10,7 @@ use Rattle.markets.specs.Merit.{merit}
 use Rattle.markets.specs.Choices.{used, part, takes, total, taken_of, front, Within, Permitted, FullFronts}
 use Rattle.markets.specs.Choosing.{ChoiceHasFullFronts}
 use Rattle.markets.proofs.Covering.{takes_most, total_takes_le, within-takes}
-use Rattle.markets.proofs.Ranking.{merit-cheapest}
+use Rattle.markets.proofs.Ranking.{merit_cheapest}
 
 -- ---- the first j lots
 total-take : (j : ℕ) (ys : List ℕ) → total (take j ys) ≤ total ys
@@ -75,4 +75,4 @@ full_fronts ls up e d ys p same c =
     omega (arith, r.1 ys p.within_remainders, r.1 (takes ls e d) (within-takes ls e d), ahead_of ls e d ys p (omega arith) r.0)
 
 pub choice_has_full_fronts : ChoiceHasFullFronts
-choice_has_full_fronts rule ls e d = full_fronts (merit rule ls) (merit-cheapest rule ls) e d
+choice_has_full_fronts rule ls e d = full_fronts (merit rule ls) (merit_cheapest rule ls) e d

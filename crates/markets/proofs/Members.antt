@@ -91,17 +91,17 @@ module _ {X : Type 0} (R : X → X → Type 0) (back : (a b : X) → R a b → R
   each_two (x ∷ xs) h (suc a) zero d p q n = back x (get_or xs a d) (All-get_or (R x) xs a d (omega arith) h.0)
   each_two (x ∷ xs) h (suc a) (suc b) d p q n = each_two xs h.1 a b d (omega arith) (omega arith) (λ e. n (omega arith))
 
-  from-each-two : (xs : List X) → EachTwo R xs → Pairwise R xs
+  from_each_two : (xs : List X) → EachTwo R xs → Pairwise R xs
   unfolding EachTwo
-  from-each-two [] h = tt
-  from-each-two (x ∷ xs) h = (
+  from_each_two [] h = tt
+  from_each_two (x ∷ xs) h = (
     All-from_get_or (R x) xs x (λ i p. h 0 (suc i) x (omega arith) (omega arith) (λ e. omega arith)),
-    from-each-two xs (λ a b d p q n. h (suc a) (suc b) d (omega arith) (omega arith) (λ e. n (omega arith))),
+    from_each_two xs (λ a b d p q n. h (suc a) (suc b) d (omega arith) (omega arith) (λ e. n (omega arith))),
   )
 
-  pub pairwise-shuffled : (xs ys : List X) → IsPermutation xs ys → Pairwise R xs → Pairwise R ys
-  pairwise-shuffled xs ys s h =
-      from-each-two ys (IsPermutation-keeps xs (EachTwo R) (each_two xs h) (λ l i j p q k. each_two_exchanged R l i j p q k) ys s)
+  pub pairwise_shuffled : (xs ys : List X) → IsPermutation xs ys → Pairwise R xs → Pairwise R ys
+  pairwise_shuffled xs ys s h =
+      from_each_two ys (IsPermutation-keeps xs (EachTwo R) (each_two xs h) (λ l i j p q k. each_two_exchanged R l i j p q k) ys s)
 
 -- ---- lists with the same members, in one strict order, are one list
 module _ {X : Type 0} (R : X → X → Type 0) (asym : (a b : X) → R a b → R b a → ⊥) where
@@ -115,10 +115,10 @@ module _ {X : Type 0} (R : X → X → Type 0) (asym : (a b : X) → R a b → R
   tails x y ys (z ∷ zs) e h (inl p, k) = let q : R z z = subst (λ w. R w z) (e ∙ sym p) h.0 in absurd (asym z z q q)
   tails x y ys (z ∷ zs) e h (inr m, k) = (m, tails x y ys zs e h.1 k)
 
-  pub same-members : (xs ys : List X) → Pairwise R xs → Pairwise R ys → All (λ z. In z ys) xs → All (λ z. In z xs) ys → xs ≡ ys
-  same-members [] [] px py hx hy = refl
-  same-members [] (y ∷ ys) px py hx hy = absurd hy.0
-  same-members (x ∷ xs) [] px py hx hy = absurd hx.0
-  same-members (x ∷ xs) (y ∷ ys) px py hx hy =
+  pub same_members : (xs ys : List X) → Pairwise R xs → Pairwise R ys → All (λ z. In z ys) xs → All (λ z. In z xs) ys → xs ≡ ys
+  same_members [] [] px py hx hy = refl
+  same_members [] (y ∷ ys) px py hx hy = absurd hy.0
+  same_members (x ∷ xs) [] px py hx hy = absurd hx.0
+  same_members (x ∷ xs) (y ∷ ys) px py hx hy =
       let e = same_heads x y xs ys px.0 py.0 hx.0 hy.0 in
-      ap₂ ◌∷◌ e (same-members xs ys px.1 py.1 (tails x y ys xs e px.0 hx.1) (tails y x xs ys (sym e) py.0 hy.1))
+      ap₂ ◌∷◌ e (same_members xs ys px.1 py.1 (tails x y ys xs e px.0 hx.1) (tails y x xs ys (sym e) py.0 hy.1))

@@ -10,7 +10,7 @@ use Rattle.markets.specs.Rules.{RuleModel}
 use Rattle.markets.specs.Remainders.{Remaining, unit, Orderly}
 use Rattle.markets.specs.Merit.{before, merit}
 use Rattle.markets.specs.Choices.{used, part, takes, total, Taken, choice}
-use Rattle.markets.proofs.Ranking.{merit-first}
+use Rattle.markets.proofs.Ranking.{merit_first}
 
 -- a lot with what is taken of it
 abbrev pub taking : Remaining → ℕ → Taken
@@ -73,4 +73,4 @@ choice-total (l ∷ ls) e d =
 pub choice_first : (rule : RuleModel) (ls : List Remaining) (l : Remaining) (rest : List Remaining) →
     Orderly ls → IsPermutation ls (l ∷ rest) → All (λ m. before rule l m ≡ true) rest → (e : ℕ → ℕ) (d : ℕ) →
     choice (merit rule ls) e d ≡ cond (ltb 0 (part l e d)) (taking l (part l e d) ∷ choice-after l (merit rule rest) e d) (choice-after l (merit rule rest) e d)
-choice_first rule ls l rest o s first e d = ap (λ ms. choice ms e d) (merit-first rule ls l rest o s first)
+choice_first rule ls l rest o s first e d = ap (λ ms. choice ms e d) (merit_first rule ls l rest o s first)

@@ -15,7 +15,7 @@ use Rattle.markets.specs.Merit.{before}
 use Rattle.markets.specs.Candidates.{Rising}
 use Rattle.markets.specs.Turns.{seen, Heads, Behind, Leader, Leads}
 use Rattle.markets.proofs.Members.{shuffled_out}
-use Rattle.markets.proofs.Ranking.{Rivals, rivals, rivals_back, cheap, before-total, before_on, before-cheaper}
+use Rattle.markets.proofs.Ranking.{Rivals, rivals, rivals_back, cheap, before_total, before_on, before_cheaper}
 
 -- all lots of some queues
 abbrev pub flat : {X : Type 0} → List (List X) → List X
@@ -45,14 +45,14 @@ head_in P (q ∷ qs) (suc j) m ms e h = head_in P qs j m ms e (all_right P q (fl
 
 -- what holds of each two lots holds of two heads
 module _ {X : Type 0} (R : X → X → Type 0) (back : (a b : X) → R a b → R b a) where
-  heads-both : (qs : List (List X)) (i j : ℕ) (l m : X) (ls ms : List X) → get_or qs i [] ≡ l ∷ ls → get_or qs j [] ≡ m ∷ ms → (i ≡ j → ⊥) → Pairwise R (flat qs) → R l m
-  heads-both [] i j l m ls ms e f n h = absurd (no_head l ls e)
-  heads-both (q ∷ qs) zero zero l m ls ms e f n h = absurd (n refl)
-  heads-both (q ∷ qs) zero (suc j) l m ls ms e f n h =
+  heads_both : (qs : List (List X)) (i j : ℕ) (l m : X) (ls ms : List X) → get_or qs i [] ≡ l ∷ ls → get_or qs j [] ≡ m ∷ ms → (i ≡ j → ⊥) → Pairwise R (flat qs) → R l m
+  heads_both [] i j l m ls ms e f n h = absurd (no_head l ls e)
+  heads_both (q ∷ qs) zero zero l m ls ms e f n h = absurd (n refl)
+  heads_both (q ∷ qs) zero (suc j) l m ls ms e f n h =
       head_in (R l) qs j m ms f (all_right (R l) ls (flat qs) (subst (λ w. Pairwise R (w ++ flat qs)) e h).0)
-  heads-both (q ∷ qs) (suc i) zero l m ls ms e f n h =
+  heads_both (q ∷ qs) (suc i) zero l m ls ms e f n h =
       back m l (head_in (R m) qs i l ls e (all_right (R m) ms (flat qs) (subst (λ w. Pairwise R (w ++ flat qs)) f h).0))
-  heads-both (q ∷ qs) (suc i) (suc j) l m ls ms e f n h = heads-both qs i j l m ls ms e f (λ k. n (omega arith)) (pairwise_right R q (flat qs) h)
+  heads_both (q ∷ qs) (suc i) (suc j) l m ls ms e f n h = heads_both qs i j l m ls ms e f (λ k. n (omega arith)) (pairwise_right R q (flat qs) h)
 
 -- ---- a head put first
 pub flat_first : {X : Type 0} (qs : List (List X)) (i : ℕ) (l : X) (ls : List X) → get_or qs i [] ≡ l ∷ ls → IsPermutation (flat qs) (l ∷ flat (set qs i ls))
@@ -71,60 +71,60 @@ module _ (rule : RuleModel) (l : Remaining) where
   abbrev After : Remaining → Type 0
   After k = before rule l k ≡ true
 
-  behind-all : (q : List Remaining) → Behind rule l q → Rising q → All After q
-  behind-all [] b r = tt
-  behind-all (m ∷ ms) b r =
+  behind_all : (q : List Remaining) → Behind rule l q → Rising q → All After q
+  behind_all [] b r = tt
+  behind_all (m ∷ ms) b r =
       let c = cheap rule l m b in
-      (b, All-weaker (λ k. m.cost <ℤ k.cost) After (λ k h. before-cheaper rule l k (omega (arith, ints))) ms r.0)
+      (b, All-weaker (λ k. m.cost <ℤ k.cost) After (λ k h. before_cheaper rule l k (omega (arith, ints))) ms r.0)
 
-  all-behind : (qs : List (List Remaining)) → All Rising qs → ((j : ℕ) → j < length qs → Behind rule l (get_or qs j [])) → All After (flat qs)
-  all-behind [] r h = tt
-  all-behind (q ∷ qs) r h = All-append After q (flat qs) (behind-all q (h 0 (omega arith)) r.0) (all-behind qs r.1 (λ j k. h (suc j) (omega arith)))
+  all_behind : (qs : List (List Remaining)) → All Rising qs → ((j : ℕ) → j < length qs → Behind rule l (get_or qs j [])) → All After (flat qs)
+  all_behind [] r h = tt
+  all_behind (q ∷ qs) r h = All-append After q (flat qs) (behind_all q (h 0 (omega arith)) r.0) (all_behind qs r.1 (λ j k. h (suc j) (omega arith)))
 
-  pub flat-behind : (qs : List (List Remaining)) (i : ℕ) (ls : List Remaining) → get_or qs i [] ≡ l ∷ ls → All Rising qs →
+  pub flat_behind : (qs : List (List Remaining)) (i : ℕ) (ls : List Remaining) → get_or qs i [] ≡ l ∷ ls → All Rising qs →
       ((j : ℕ) → j < length qs → (j ≡ i → ⊥) → Behind rule l (get_or qs j [])) → All After (flat (set qs i ls))
-  flat-behind [] i ls e r h = tt
-  flat-behind (q ∷ qs) zero ls e r h =
-      All-append After ls (flat qs) (All-weaker (λ k. l.cost <ℤ k.cost) After (λ k h. before-cheaper rule l k h) ls (subst Rising e r.0).0)
-      (all-behind qs r.1 (λ j k. h (suc j) (omega arith) (λ z. omega arith)))
-  flat-behind (q ∷ qs) (suc i) ls e r h =
-      All-append After q (flat (set qs i ls)) (behind-all q (h 0 (omega arith) (λ z. omega arith)) r.0)
-      (flat-behind qs i ls e r.1 (λ j k n. h (suc j) (omega arith) (λ z. n (omega arith))))
+  flat_behind [] i ls e r h = tt
+  flat_behind (q ∷ qs) zero ls e r h =
+      All-append After ls (flat qs) (All-weaker (λ k. l.cost <ℤ k.cost) After (λ k h. before_cheaper rule l k h) ls (subst Rising e r.0).0)
+      (all_behind qs r.1 (λ j k. h (suc j) (omega arith) (λ z. omega arith)))
+  flat_behind (q ∷ qs) (suc i) ls e r h =
+      All-append After q (flat (set qs i ls)) (behind_all q (h 0 (omega arith) (λ z. omega arith)) r.0)
+      (flat_behind qs i ls e r.1 (λ j k n. h (suc j) (omega arith) (λ z. n (omega arith))))
 
 -- ---- the first of the heads up to a place
 module _ {L : Type 0} (rule : RuleModel) (meant : L → LotFigures) (qs : List (List Remaining)) where
   -- two heads are rivals
-  heads-rival : (i j : ℕ) (l m : Remaining) (ls ms : List Remaining) → get_or qs i [] ≡ l ∷ ls → get_or qs j [] ≡ m ∷ ms → (i ≡ j → ⊥) → Orderly (flat qs) → Rivals l m
-  heads-rival i j l m ls ms e f n o = heads-both Rivals rivals_back qs i j l m ls ms e f n (rivals (flat qs) o)
+  heads_rival : (i j : ℕ) (l m : Remaining) (ls ms : List Remaining) → get_or qs i [] ≡ l ∷ ls → get_or qs j [] ≡ m ∷ ms → (i ≡ j → ⊥) → Orderly (flat qs) → Rivals l m
+  heads_rival i j l m ls ms e f n o = heads_both Rivals rivals_back qs i j l m ls ms e f n (rivals (flat qs) o)
 
-  pub leads-skip : (i : ℕ) (best : Option (Front L)) → Leads rule meant qs i best → get_or qs i [] ≡ [] → Leads rule meant qs (i + 1) best
-  leads-skip i None h e = below_more (λ j. get_or qs j [] ≡ []) i h e
-  leads-skip i (Some f) h e = record {
+  pub leads_skip : (i : ℕ) (best : Option (Front L)) → Leads rule meant qs i best → get_or qs i [] ≡ [] → Leads rule meant qs (i + 1) best
+  leads_skip i None h e = below_more (λ j. get_or qs j [] ≡ []) i h e
+  leads_skip i (Some f) h e = record {
     below = omega (arith, h.below);
     stands = h.stands;
     leads = λ o. below_more (λ j. (j ≡ f.place → ⊥) → Behind rule (seen meant f) (get_or qs j [])) i (h.leads o) (λ n. subst (Behind rule (seen meant f)) (sym e) tt);
   }
 
-  pub leads-first : (i : ℕ) (f : Front L) → Leads rule meant qs i None → Heads meant qs i (Some f) → Leader rule meant qs (i + 1) f
-  leads-first i f h e = record {
+  pub leads_first : (i : ℕ) (f : Front L) → Leads rule meant qs i None → Heads meant qs i (Some f) → Leader rule meant qs (i + 1) f
+  leads_first i f h e = record {
     below = omega (arith, e.0);
     stands = e.1;
     leads = λ o. below_more (λ j. (j ≡ f.place → ⊥) → Behind rule (seen meant f) (get_or qs j [])) i (λ j k n. subst (Behind rule (seen meant f)) (sym (h j k)) tt) (λ n. absurd (n (sym e.0)));
   }
 
-  pub leads-keep : (i : ℕ) (f held : Front L) → Leader rule meant qs i held → Heads meant qs i (Some f) → false ≡ before rule (seen meant f) (seen meant held) → Leader rule meant qs (i + 1) held
-  leads-keep i f held h e b =
+  pub leads_keep : (i : ℕ) (f held : Front L) → Leader rule meant qs i held → Heads meant qs i (Some f) → false ≡ before rule (seen meant f) (seen meant held) → Leader rule meant qs (i + 1) held
+  leads_keep i f held h e b =
       let at : get_or qs i [] ≡ seen meant f ∷ e.1.0 = subst (λ k. get_or qs k [] ≡ seen meant f ∷ e.1.0) e.0 e.1.1 in
       record {
         below = omega (arith, h.below);
         stands = h.stands;
         leads = λ o. below_more (λ j. (j ≡ held.place → ⊥) → Behind rule (seen meant held) (get_or qs j [])) i (h.leads o)
             (λ n. subst (Behind rule (seen meant held)) (sym at)
-            (before-total rule (seen meant f) (seen meant held) (heads-rival i held.place (seen meant f) (seen meant held) e.1.0 h.stands.0 at h.stands.1 n o) (sym b)));
+            (before_total rule (seen meant f) (seen meant held) (heads_rival i held.place (seen meant f) (seen meant held) e.1.0 h.stands.0 at h.stands.1 n o) (sym b)));
       }
 
-  pub leads-change : (i : ℕ) (f held : Front L) → Leader rule meant qs i held → Heads meant qs i (Some f) → true ≡ before rule (seen meant f) (seen meant held) → Leader rule meant qs (i + 1) f
-  leads-change i f held h e b =
+  pub leads_change : (i : ℕ) (f held : Front L) → Leader rule meant qs i held → Heads meant qs i (Some f) → true ≡ before rule (seen meant f) (seen meant held) → Leader rule meant qs (i + 1) f
+  leads_change i f held h e b =
       let l = seen meant f in
       let k = seen meant held in
       let p = held.place in
@@ -137,9 +137,9 @@ module _ {L : Type 0} (rule : RuleModel) (meant : L → LotFigures) (qs : List (
         | inl z ↦ subst (Behind rule l) (sym (ap (λ w. get_or qs w []) z ∙ h.stands.1)) (sym b)
         | inr n ↦ behind_of rule l (get_or qs j []) (λ m ms s.
             before_on rule l k m
-            (heads-rival i p l k ls ks at h.stands.1 (λ z. omega arith) o)
-            (heads-rival p j k m ks ms h.stands.1 s (λ z. n (sym z)) o)
-            (heads-rival i j l m ls ms at s (λ z. omega arith) o)
+            (heads_rival i p l k ls ks at h.stands.1 (λ z. omega arith) o)
+            (heads_rival p j k m ks ms h.stands.1 s (λ z. n (sym z)) o)
+            (heads_rival i j l m ls ms at s (λ z. omega arith) o)
             (sym b) (subst (Behind rule k) s (h.leads o j q n)))
       ] in
       record {

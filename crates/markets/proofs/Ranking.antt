@@ -13,7 +13,7 @@ use Rattle.lots.specs.Standings.{Accepted}
 use Rattle.markets.specs.Rules.{RuleModel, Apart}
 use Rattle.markets.specs.Remainders.{Remaining, left_of, In, Differ, Orderly}
 use Rattle.markets.specs.Merit.{before, insert, merit}
-use Rattle.markets.proofs.Members.{in_all, in_shuffled, all_both, pairwise_weaker, pairwise_both, pairwise-shuffled, same-members}
+use Rattle.markets.proofs.Members.{in_all, in_shuffled, all_both, pairwise_weaker, pairwise_both, pairwise_shuffled, same_members}
 
 -- ---- orderly lots
 differ_back : (a b : Remaining) → Differ a b → Differ b a
@@ -25,7 +25,7 @@ orderly_tail l ls o = record { accepted = o.accepted.1; differ = o.differ.1 }
 pub orderly_shuffled : (xs ys : List Remaining) → IsPermutation xs ys → Orderly xs → Orderly ys
 orderly_shuffled xs ys s o = record {
   accepted = all_shuffled (λ l. Accepted l.figures) xs ys s o.accepted;
-  differ = pairwise-shuffled Differ differ_back xs ys s o.differ;
+  differ = pairwise_shuffled Differ differ_back xs ys s o.differ;
 }
 
 -- two lots that can be put in order
@@ -65,28 +65,28 @@ precedes_on x y z p q r tie a b = grind (arith, ints)
 
 module _ (rule : RuleModel) where
   -- ---- the same lots
-  insert-shuffled : (l : Remaining) (ms : List Remaining) → IsPermutation (l ∷ ms) (insert rule l ms)
-  insert-shuffled l [] = IsPermutation-refl (l ∷ [])
-  insert-shuffled l (m ∷ ms) = cond_both (before rule l m) (l ∷ m ∷ ms) (m ∷ insert rule l ms) (λ r. IsPermutation (l ∷ m ∷ ms) r)
+  insert_shuffled : (l : Remaining) (ms : List Remaining) → IsPermutation (l ∷ ms) (insert rule l ms)
+  insert_shuffled l [] = IsPermutation-refl (l ∷ [])
+  insert_shuffled l (m ∷ ms) = cond_both (before rule l m) (l ∷ m ∷ ms) (m ∷ insert rule l ms) (λ r. IsPermutation (l ∷ m ∷ ms) r)
       (λ _. IsPermutation-refl (l ∷ m ∷ ms))
       (λ _. IsPermutation-trans (l ∷ m ∷ ms) (m ∷ l ∷ ms) (m ∷ insert rule l ms)
       (IsPermutation-swap (l ∷ m ∷ ms) (m ∷ l ∷ ms) 0 1 (omega arith) (omega arith) refl)
-      (IsPermutation-cons m (l ∷ ms) (insert rule l ms) (insert-shuffled l ms)))
+      (IsPermutation-cons m (l ∷ ms) (insert rule l ms) (insert_shuffled l ms)))
 
-  pub merit-shuffled : (ls : List Remaining) → IsPermutation ls (merit rule ls)
-  merit-shuffled [] = IsPermutation-refl []
-  merit-shuffled (l ∷ ls) = IsPermutation-trans (l ∷ ls) (l ∷ merit rule ls) (insert rule l (merit rule ls))
-      (IsPermutation-cons l ls (merit rule ls) (merit-shuffled ls)) (insert-shuffled l (merit rule ls))
+  pub merit_shuffled : (ls : List Remaining) → IsPermutation ls (merit rule ls)
+  merit_shuffled [] = IsPermutation-refl []
+  merit_shuffled (l ∷ ls) = IsPermutation-trans (l ∷ ls) (l ∷ merit rule ls) (insert rule l (merit rule ls))
+      (IsPermutation-cons l ls (merit rule ls) (merit_shuffled ls)) (insert_shuffled l (merit rule ls))
 
   -- each unit's lots have left what they had
-  insert-left : (u : ℕ) (l : Remaining) (ms : List Remaining) → left_of u (insert rule l ms) ≡ left_of u (l ∷ ms)
-  insert-left u l [] = refl
-  insert-left u l (m ∷ ms) = cond_both (before rule l m) (l ∷ m ∷ ms) (m ∷ insert rule l ms) (λ k. left_of u k ≡ left_of u (l ∷ m ∷ ms))
-      (λ _. refl) (λ _. omega (arith, insert-left u l ms))
+  insert_left : (u : ℕ) (l : Remaining) (ms : List Remaining) → left_of u (insert rule l ms) ≡ left_of u (l ∷ ms)
+  insert_left u l [] = refl
+  insert_left u l (m ∷ ms) = cond_both (before rule l m) (l ∷ m ∷ ms) (m ∷ insert rule l ms) (λ k. left_of u k ≡ left_of u (l ∷ m ∷ ms))
+      (λ _. refl) (λ _. omega (arith, insert_left u l ms))
 
-  pub merit-left : (u : ℕ) (ls : List Remaining) → left_of u (merit rule ls) ≡ left_of u ls
-  merit-left u [] = refl
-  merit-left u (l ∷ ls) = omega (arith, insert-left u l (merit rule ls), merit-left u ls)
+  pub merit_left : (u : ℕ) (ls : List Remaining) → left_of u (merit rule ls) ≡ left_of u ls
+  merit_left u [] = refl
+  merit_left u (l ∷ ls) = omega (arith, insert_left u l (merit rule ls), merit_left u ls)
 
   -- ---- its costs ascend
   pub cheap : (a b : Remaining) → before rule a b ≡ true → a.cost ≤ℤ b.cost
@@ -95,27 +95,27 @@ module _ (rule : RuleModel) where
   dear : (a b : Remaining) → before rule a b ≡ false → b.cost ≤ℤ a.cost
   dear a b h = grind (arith, ints)
 
-  insert-cheapest : (l : Remaining) (ms : List Remaining) → Pairwise (λ a b. a.cost ≤ℤ b.cost) ms → Pairwise (λ a b. a.cost ≤ℤ b.cost) (insert rule l ms)
-  insert-cheapest l [] h = (tt, tt)
-  insert-cheapest l (m ∷ ms) h = cond_both (before rule l m) (l ∷ m ∷ ms) (m ∷ insert rule l ms) (Pairwise (λ a b. a.cost ≤ℤ b.cost))
+  insert_cheapest : (l : Remaining) (ms : List Remaining) → Pairwise (λ a b. a.cost ≤ℤ b.cost) ms → Pairwise (λ a b. a.cost ≤ℤ b.cost) (insert rule l ms)
+  insert_cheapest l [] h = (tt, tt)
+  insert_cheapest l (m ∷ ms) h = cond_both (before rule l m) (l ∷ m ∷ ms) (m ∷ insert rule l ms) (Pairwise (λ a b. a.cost ≤ℤ b.cost))
       (λ p. let c = cheap l m p in ((c, All-weaker (λ k. m.cost ≤ℤ k.cost) (λ k. l.cost ≤ℤ k.cost) (λ k q. omega (arith, ints)) ms h.0), h))
-      (λ p. (all_shuffled (λ k. m.cost ≤ℤ k.cost) (l ∷ ms) (insert rule l ms) (insert-shuffled l ms) (dear l m p, h.0), insert-cheapest l ms h.1))
+      (λ p. (all_shuffled (λ k. m.cost ≤ℤ k.cost) (l ∷ ms) (insert rule l ms) (insert_shuffled l ms) (dear l m p, h.0), insert_cheapest l ms h.1))
 
-  pub merit-cheapest : (ls : List Remaining) → Pairwise (λ a b. a.cost ≤ℤ b.cost) (merit rule ls)
-  merit-cheapest [] = tt
-  merit-cheapest (l ∷ ls) = insert-cheapest l (merit rule ls) (merit-cheapest ls)
+  pub merit_cheapest : (ls : List Remaining) → Pairwise (λ a b. a.cost ≤ℤ b.cost) (merit rule ls)
+  merit_cheapest [] = tt
+  merit_cheapest (l ∷ ls) = insert_cheapest l (merit rule ls) (merit_cheapest ls)
 
   -- ---- rivals are in strict order
-  tie-one : (a b : Remaining) → Rivals a b → a.cost ≡ b.cost → rule.first a.figures b.figures ≡ not (rule.first b.figures a.figures)
-  tie-one a b r e = rule.one_goes_first a.figures b.figures r.one r.other (apart a b r e)
+  tie_one : (a b : Remaining) → Rivals a b → a.cost ≡ b.cost → rule.first a.figures b.figures ≡ not (rule.first b.figures a.figures)
+  tie_one a b r e = rule.one_goes_first a.figures b.figures r.one r.other (apart a b r e)
 
-  pub before-asym : (a b : Remaining) → Rivals a b → before rule a b ≡ true → before rule b a ≡ true → ⊥
-  before-asym a b r p q =
-      precedes_asym a.cost b.cost (rule.first a.figures b.figures) (rule.first b.figures a.figures) (tie-one a b r) p q
+  pub before_asym : (a b : Remaining) → Rivals a b → before rule a b ≡ true → before rule b a ≡ true → ⊥
+  before_asym a b r p q =
+      precedes_asym a.cost b.cost (rule.first a.figures b.figures) (rule.first b.figures a.figures) (tie_one a b r) p q
 
-  pub before-total : (a b : Remaining) → Rivals a b → before rule a b ≡ false → before rule b a ≡ true
-  before-total a b r p =
-      precedes_total a.cost b.cost (rule.first a.figures b.figures) (rule.first b.figures a.figures) (tie-one a b r) p
+  pub before_total : (a b : Remaining) → Rivals a b → before rule a b ≡ false → before rule b a ≡ true
+  before_total a b r p =
+      precedes_total a.cost b.cost (rule.first a.figures b.figures) (rule.first b.figures a.figures) (tie_one a b r) p
 
   pub before_on : (a b c : Remaining) → Rivals a b → Rivals b c → Rivals a c → before rule a b ≡ true → before rule b c ≡ true → before rule a c ≡ true
   before_on a b c r s t p q =
@@ -125,8 +125,8 @@ module _ (rule : RuleModel) where
       precedes_on a.cost b.cost c.cost (rule.first f g) (rule.first g h) (rule.first f h)
       (λ x y. rule.goes_on f g h r.one s.one s.other (apart a b r x) (apart b c s y) (apart a c t (x ∙ y))) p q
 
-  pub before-cheaper : (a b : Remaining) → a.cost <ℤ b.cost → before rule a b ≡ true
-  before-cheaper a b h = grind (arith, ints)
+  pub before_cheaper : (a b : Remaining) → a.cost <ℤ b.cost → before rule a b ≡ true
+  before_cheaper a b h = grind (arith, ints)
 
   -- ---- each lot goes before those after it
   abbrev Before : Remaining → Remaining → Type 0
@@ -136,8 +136,8 @@ module _ (rule : RuleModel) where
     goes : Before a b
     rivals : Rivals a b
 
-  after-asym : (a b : Remaining) → After a b → After b a → ⊥
-  after-asym a b p q = before-asym a b p.rivals p.goes q.goes
+  after_asym : (a b : Remaining) → After a b → After b a → ⊥
+  after_asym a b p q = before_asym a b p.rivals p.goes q.goes
 
   after_on : (l m : Remaining) (ks : List Remaining) → After l m → All (Rivals l) ks → All (After m) ks → All (After l) ks
   after_on l m [] p r h = tt
@@ -145,63 +145,63 @@ module _ (rule : RuleModel) where
       (record { goes = before_on l m k p.rivals h.0.rivals r.0 p.goes h.0.goes; rivals = r.0 }, after_on l m ks p r.1 h.1)
 
   -- what goes before m goes before all that m goes before
-  pub before-all : (l m : Remaining) (ks : List Remaining) → Orderly (l ∷ m ∷ ks) → before rule l m ≡ true → All (λ k. before rule m k ≡ true) ks → All (λ k. before rule l k ≡ true) ks
-  before-all l m ks o p h =
+  pub before_all : (l m : Remaining) (ks : List Remaining) → Orderly (l ∷ m ∷ ks) → before rule l m ≡ true → All (λ k. before rule m k ≡ true) ks → All (λ k. before rule l k ≡ true) ks
+  before_all l m ks o p h =
       let r = rivals (l ∷ m ∷ ks) o in
       let after : All (After m) ks = All-weaker (λ k. Before m k × Rivals m k) (After m) (λ k x. record { goes = x.0; rivals = x.1 }) ks (all_both (Before m) (Rivals m) ks h r.1.0) in
       All-weaker (After l) (Before l) (λ k a. a.goes) ks (after_on l m ks (record { goes = p; rivals = r.0.0 }) r.0.1 after)
 
-  insert-after : (l : Remaining) (ms : List Remaining) → All (Rivals l) ms → Pairwise After ms → Pairwise After (insert rule l ms)
-  insert-after l [] r h = (tt, tt)
-  insert-after l (m ∷ ms) r h = cond_both (before rule l m) (l ∷ m ∷ ms) (m ∷ insert rule l ms) (Pairwise After)
+  insert_after : (l : Remaining) (ms : List Remaining) → All (Rivals l) ms → Pairwise After ms → Pairwise After (insert rule l ms)
+  insert_after l [] r h = (tt, tt)
+  insert_after l (m ∷ ms) r h = cond_both (before rule l m) (l ∷ m ∷ ms) (m ∷ insert rule l ms) (Pairwise After)
       (λ p. let a : After l m = record { goes = p; rivals = r.0 } in ((a, after_on l m ms a r.1 h.0), h))
       (λ p. (
-        all_shuffled (After m) (l ∷ ms) (insert rule l ms) (insert-shuffled l ms) (record { goes = before-total l m r.0 p; rivals = rivals_back l m r.0 }, h.0),
-        insert-after l ms r.1 h.1,
+        all_shuffled (After m) (l ∷ ms) (insert rule l ms) (insert_shuffled l ms) (record { goes = before_total l m r.0 p; rivals = rivals_back l m r.0 }, h.0),
+        insert_after l ms r.1 h.1,
       ))
 
-  merit-after : (ls : List Remaining) → Pairwise Rivals ls → Pairwise After (merit rule ls)
-  merit-after [] r = tt
-  merit-after (l ∷ ls) r = insert-after l (merit rule ls) (all_shuffled (Rivals l) ls (merit rule ls) (merit-shuffled ls) r.0) (merit-after ls r.1)
+  merit_after : (ls : List Remaining) → Pairwise Rivals ls → Pairwise After (merit rule ls)
+  merit_after [] r = tt
+  merit_after (l ∷ ls) r = insert_after l (merit rule ls) (all_shuffled (Rivals l) ls (merit rule ls) (merit_shuffled ls) r.0) (merit_after ls r.1)
 
-  pub merit-ascends : (ls : List Remaining) → Orderly ls → Pairwise (λ a b. before rule a b ≡ true) (merit rule ls)
-  merit-ascends ls o = pairwise_weaker After Before (λ a b h. h.goes) (merit rule ls) (merit-after ls (rivals ls o))
+  pub merit_ascends : (ls : List Remaining) → Orderly ls → Pairwise (λ a b. before rule a b ≡ true) (merit rule ls)
+  merit_ascends ls o = pairwise_weaker After Before (λ a b h. h.goes) (merit rule ls) (merit_after ls (rivals ls o))
 
   -- ---- it is one for all lists with the same lots
-  pub merit-members : (xs ys : List Remaining) → Orderly xs → Orderly ys → All (λ z. In z ys) xs → All (λ z. In z xs) ys → merit rule xs ≡ merit rule ys
-  merit-members xs ys ox oy hx hy =
+  pub merit_members : (xs ys : List Remaining) → Orderly xs → Orderly ys → All (λ z. In z ys) xs → All (λ z. In z xs) ys → merit rule xs ≡ merit rule ys
+  merit_members xs ys ox oy hx hy =
       let MX = merit rule xs in
       let MY = merit rule ys in
       let on : (zs : List Remaining) → (z : Remaining) → In z zs → In z (merit rule zs) =
-      λ zs z m. in_all (λ w. In w (merit rule zs)) z zs m (in_shuffled (merit rule zs) zs (IsPermutation-sym zs (merit rule zs) (merit-shuffled zs))) in
-      same-members After after-asym MX MY (merit-after xs (rivals xs ox)) (merit-after ys (rivals ys oy))
-      (All-weaker (λ z. In z ys) (λ z. In z MY) (on ys) MX (all_shuffled (λ z. In z ys) xs MX (merit-shuffled xs) hx))
-      (All-weaker (λ z. In z xs) (λ z. In z MX) (on xs) MY (all_shuffled (λ z. In z xs) ys MY (merit-shuffled ys) hy))
+      λ zs z m. in_all (λ w. In w (merit rule zs)) z zs m (in_shuffled (merit rule zs) zs (IsPermutation-sym zs (merit rule zs) (merit_shuffled zs))) in
+      same_members After after_asym MX MY (merit_after xs (rivals xs ox)) (merit_after ys (rivals ys oy))
+      (All-weaker (λ z. In z ys) (λ z. In z MY) (on ys) MX (all_shuffled (λ z. In z ys) xs MX (merit_shuffled xs) hx))
+      (All-weaker (λ z. In z xs) (λ z. In z MX) (on xs) MY (all_shuffled (λ z. In z xs) ys MY (merit_shuffled ys) hy))
 
   -- the same lots, each before those after it, are in merit order: so what any sort leaves is it
-  pub merit-only : (ls ms : List Remaining) → Orderly ls → IsPermutation ls ms → Pairwise (λ a b. before rule a b ≡ true) ms → merit rule ls ≡ ms
-  merit-only ls ms o s up =
+  pub merit_only : (ls ms : List Remaining) → Orderly ls → IsPermutation ls ms → Pairwise (λ a b. before rule a b ≡ true) ms → merit rule ls ≡ ms
+  merit_only ls ms o s up =
       let M = merit rule ls in
-      let over : IsPermutation M ms = IsPermutation-trans M ls ms (IsPermutation-sym ls M (merit-shuffled ls)) s in
+      let over : IsPermutation M ms = IsPermutation-trans M ls ms (IsPermutation-sym ls M (merit_shuffled ls)) s in
       let after : Pairwise After ms = pairwise_weaker (λ a b. Before a b × Rivals a b) After (λ a b h. record { goes = h.0; rivals = h.1 }) ms
       (pairwise_both Before Rivals ms up (rivals ms (orderly_shuffled ls ms s o))) in
-      same-members After after-asym M ms (merit-after ls (rivals ls o)) after (in_shuffled ms M (IsPermutation-sym M ms over)) (in_shuffled M ms over)
+      same_members After after_asym M ms (merit_after ls (rivals ls o)) after (in_shuffled ms M (IsPermutation-sym M ms over)) (in_shuffled M ms over)
 
   -- a lot that goes before all the others stands first, and then come the others in merit order
-  pub merit-first : (ls : List Remaining) (l : Remaining) (rest : List Remaining) → Orderly ls → IsPermutation ls (l ∷ rest) → All (λ m. before rule l m ≡ true) rest →
+  pub merit_first : (ls : List Remaining) (l : Remaining) (rest : List Remaining) → Orderly ls → IsPermutation ls (l ∷ rest) → All (λ m. before rule l m ≡ true) rest →
       merit rule ls ≡ l ∷ merit rule rest
-  merit-first ls l rest o s first =
+  merit_first ls l rest o s first =
       let M = merit rule rest in
       let o' = orderly_tail l rest (orderly_shuffled ls (l ∷ rest) s o) in
-      merit-only ls (l ∷ M) o (IsPermutation-trans ls (l ∷ rest) (l ∷ M) s (IsPermutation-cons l rest M (merit-shuffled rest)))
-      (all_shuffled (λ m. before rule l m ≡ true) rest M (merit-shuffled rest) first, merit-ascends rest o')
+      merit_only ls (l ∷ M) o (IsPermutation-trans ls (l ∷ rest) (l ∷ M) s (IsPermutation-cons l rest M (merit_shuffled rest)))
+      (all_shuffled (λ m. before rule l m ≡ true) rest M (merit_shuffled rest) first, merit_ascends rest o')
 
 -- ---- rules that tell the same
 module _ (rule rule' : RuleModel) (alike : (a b : Figures) → rule.first a b ≡ rule'.first a b) where
-  insert-alike : (l : Remaining) (ms : List Remaining) → insert rule l ms ≡ insert rule' l ms
-  insert-alike l [] = refl
-  insert-alike l (m ∷ ms) = rw (alike l.figures m.figures, insert-alike l ms)
+  insert_alike : (l : Remaining) (ms : List Remaining) → insert rule l ms ≡ insert rule' l ms
+  insert_alike l [] = refl
+  insert_alike l (m ∷ ms) = rw (alike l.figures m.figures, insert_alike l ms)
 
-  pub merit-alike : (ls : List Remaining) → merit rule ls ≡ merit rule' ls
-  merit-alike [] = refl
-  merit-alike (l ∷ ls) = insert-alike l (merit rule ls) ∙ ap (insert rule' l) (merit-alike ls)
+  pub merit_alike : (ls : List Remaining) → merit rule ls ≡ merit rule' ls
+  merit_alike [] = refl
+  merit_alike (l ∷ ls) = insert_alike l (merit rule ls) ∙ ap (insert rule' l) (merit_alike ls)

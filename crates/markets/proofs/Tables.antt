@@ -48,29 +48,29 @@ figures_of_all meant f [] l rest e = absurd (no_head l rest e)
 figures_of_all meant f (x ∷ xs) l rest e = sym (ap (λ (m : Remaining). m.figures) (same_heads (remaining meant f x) l (map (remaining meant f) xs) rest e))
 
 module _ {L : Type 0} (meant : L → LotFigures) (T : List (Left L)) where
-  pub queue-none : (p : ℕ) (c : Candidate) → c.count ≤ c.next → queue meant T p c ≡ []
-  queue-none p c h = let z : c.count - c.next ≡ 0 = omega arith in rw z
+  pub queue_none : (p : ℕ) (c : Candidate) → c.count ≤ c.next → queue meant T p c ≡ []
+  queue_none p c h = let z : c.count - c.next ≡ 0 = omega arith in rw z
 
-  pub queue-head : (p : ℕ) (c : Candidate) (d : Left L) → 25 * p + c.next < length T → c.next < c.count →
+  pub queue_head : (p : ℕ) (c : Candidate) (d : Left L) → 25 * p + c.next < length T → c.next < c.count →
       (rest : List Remaining) × (queue meant T p c ≡ remaining meant c.figures (get_or T (25 * p + c.next) d) ∷ rest)
-  queue-head p c d l h =
+  queue_head p c d l h =
       let f = remaining meant c.figures in
       let k = 25 * p + c.next in
       let n = c.count - c.next in
       (map f (take (n - 1) (drop (k + 1) T)), ap (map f) (own_more T k n d l (omega arith)))
 
-  pub queue-some : (p : ℕ) (c : Candidate) (l : Remaining) (rest : List Remaining) → queue meant T p c ≡ l ∷ rest → c.next < c.count
-  queue-some p c l rest e = omega (arith, long (remaining meant c.figures) T (25 * p + c.next) (c.count - c.next) l rest e)
+  pub queue_some : (p : ℕ) (c : Candidate) (l : Remaining) (rest : List Remaining) → queue meant T p c ≡ l ∷ rest → c.next < c.count
+  queue_some p c l rest e = omega (arith, long (remaining meant c.figures) T (25 * p + c.next) (c.count - c.next) l rest e)
 
-  pub queue-tail : (p k : ℕ) (c : Candidate) (l : Remaining) (rest : List Remaining) → queue meant T p c ≡ l ∷ rest → queue meant T p (moved_on c k) ≡ rest
-  queue-tail p k c l rest e =
+  pub queue_tail : (p k : ℕ) (c : Candidate) (l : Remaining) (rest : List Remaining) → queue meant T p c ≡ l ∷ rest → queue meant T p (moved_on c k) ≡ rest
+  queue_tail p k c l rest e =
       let f = remaining meant c.figures in
       let n : c.count - (c.next + 1) ≡ c.count - c.next - 1 = omega arith in
       let j : 25 * p + (c.next + 1) ≡ 25 * p + c.next + 1 = omega arith in
       ap₂ (λ a b. map f (take a (drop b T))) n j ∙ tail_of f T (25 * p + c.next) (c.count - c.next) l rest e
 
-  pub queue-figures : (p : ℕ) (c : Candidate) (l : Remaining) (rest : List Remaining) → queue meant T p c ≡ l ∷ rest → l.figures ≡ c.figures
-  queue-figures p c l rest e = figures_of_all meant c.figures (own_lots T p c) l rest e
+  pub queue_figures : (p : ℕ) (c : Candidate) (l : Remaining) (rest : List Remaining) → queue meant T p c ≡ l ∷ rest → l.figures ≡ c.figures
+  queue_figures p c l rest e = figures_of_all meant c.figures (own_lots T p c) l rest e
 
 -- ---- what is given for each unit and its place
 module _ {Y : Type 0} (f : ℕ → Candidate → Y) where

@@ -18,9 +18,9 @@ use Rattle.markets.specs.Candidates.{queue, each_from, units_in, queues, waiting
 use Rattle.markets.specs.Turns.{seen, Leader, added, Turn}
 use Rattle.markets.proofs.Ranking.{orderly_tail, orderly_shuffled}
 use Rattle.markets.proofs.Picking.{taking, choice_alike, choice_first}
-use Rattle.markets.proofs.Queues.{all_empty, flat, flat_first, flat-behind}
+use Rattle.markets.proofs.Queues.{all_empty, flat, flat_first, flat_behind}
 use Rattle.markets.proofs.Numbers.{AtPlace, energy_at, energy-used, numbered_set}
-use Rattle.markets.proofs.Tables.{moved_on, queue-some, queue-tail, queue-figures, each_set, each_long, queue_at}
+use Rattle.markets.proofs.Tables.{moved_on, queue_some, queue_tail, queue_figures, each_set, each_long, queue_at}
 
 map-added : (b : Bool) (t : Taken) (ts : List Taken) → map commitment (cond b (t ∷ ts) ts) ≡ cond b (commitment t ∷ map commitment ts) (map commitment ts)
 map-added true t ts = refl
@@ -51,52 +51,52 @@ module _ {L : Type 0} (rule : RuleModel) (meant : L → LotFigures) (cs : Candid
   own = sym (queue_at meant cs place c lead.below at) ∙ lead.stands.1
 
   pub goes_on : c.next < c.count
-  goes_on = queue-some meant cs.lots place c first rest own
+  goes_on = queue_some meant cs.lots place c first rest own
 
   out : IsPermutation (flat qs) (first ∷ flat later)
   out = flat_first qs place first rest lead.stands.1
 
   -- the figures of the first lot are those of its unit
   ones : f.figures ≡ c.figures
-  ones = queue-figures meant cs.lots place c first rest own
+  ones = queue_figures meant cs.lots place c first rest own
 
   behind : Sound meant cs → All (λ m. before rule first m ≡ true) (flat later)
-  behind sound = flat-behind rule first qs place rest lead.stands.1 sound.rise
+  behind sound = flat_behind rule first qs place rest lead.stands.1 sound.rise
       (λ j l n. lead.leads sound.orderly j (omega (arith, each_long (queue meant cs.lots) 0 (units_in cs), length-take cs.count cs.units)) n)
 
   -- k is taken of it, which leaves cs'
   module _ (cs' : Candidates L) (d k : ℕ) (now_units : units_in cs' ≡ set (units_in cs) f.place (moved_on c k)) (now_lots : cs'.lots ≡ cs.lots)
       (least : k ≡ min f.left.rest (min c.eligible d)) where
-    now-queues : queues meant cs' ≡ later
-    now-queues =
+    now_queues : queues meant cs' ≡ later
+    now_queues =
         ap₂ (λ T us. each_from (queue meant T) 0 us) now_lots now_units
         ∙ (each_set (queue meant cs.lots) 0 (units_in cs) place (moved_on c k)
-        ∙ ap (set qs place) (ap (λ j. queue meant cs.lots j (moved_on c k)) (omega arith) ∙ queue-tail meant cs.lots place k c first rest own))
+        ∙ ap (set qs place) (ap (λ j. queue meant cs.lots j (moved_on c k)) (omega arith) ∙ queue_tail meant cs.lots place k c first rest own))
 
     module _ (sound : Sound meant cs) where
-      part-is : part first (energy cs) d ≡ k
-      part-is =
+      part_is : part first (energy cs) d ≡ k
+      part_is =
           ap (λ (w : Figures). min f.left.rest (min (energy cs w.number) d)) ones
           ∙ (ap (λ n. min f.left.rest (min n d)) (energy_at (units_in cs) place c inside at sound.numbered) ∙ sym least)
 
       energy_is : (u : ℕ) → used (energy cs) (unit first) (part first (energy cs) d) u ≡ energy cs' u
       energy_is u =
-          ap₂ (λ n j. used (energy cs) n j u) (ap (λ (w : Figures). w.number) ones) part-is
+          ap₂ (λ n j. used (energy cs) n j u) (ap (λ (w : Figures). w.number) ones) part_is
           ∙ (sym (energy-used (units_in cs) place c (moved_on c k) k inside at refl refl sound.numbered u) ∙ ap (λ us. energy_among us u) (sym now_units))
 
-      sound-after : Sound meant cs'
-      sound-after = record {
-        orderly = subst (λ q. Orderly (flat q)) (sym now-queues) (orderly_tail first (flat later) (orderly_shuffled (flat qs) (first ∷ flat later) out sound.orderly));
-        rise = subst (All Rising) (sym now-queues) (All-set Rising qs place rest
+      sound_after : Sound meant cs'
+      sound_after = record {
+        orderly = subst (λ q. Orderly (flat q)) (sym now_queues) (orderly_tail first (flat later) (orderly_shuffled (flat qs) (first ∷ flat later) out sound.orderly));
+        rise = subst (All Rising) (sym now_queues) (All-set Rising qs place rest
             (subst Rising lead.stands.1 (All-get_or Rising qs place [] (omega (arith, each_long (queue meant cs.lots) 0 (units_in cs), inside)) sound.rise)).1 sound.rise);
         numbered = subst Numbered (sym now_units) (numbered_set (units_in cs) place c (moved_on c k) inside at refl sound.numbered);
       }
 
-      choice-is : choice (merit rule (flat later)) (used (energy cs) (unit first) (part first (energy cs) d)) (d - part first (energy cs) d)
+      choice_is : choice (merit rule (flat later)) (used (energy cs) (unit first) (part first (energy cs) d)) (d - part first (energy cs) d)
           ≡ choice (merit rule (waiting meant cs')) (energy cs') (d - k)
-      choice-is =
+      choice_is =
           choice_alike (merit rule (flat later)) (used (energy cs) (unit first) (part first (energy cs) d)) (energy cs') energy_is (d - part first (energy cs) d)
-          ∙ ap₂ (λ q j. choice (merit rule (flat q)) (energy cs') (d - j)) (sym now-queues) part-is
+          ∙ ap₂ (λ q j. choice (merit rule (flat q)) (energy cs') (d - j)) (sym now_queues) part_is
 
       onward : planned rule meant cs d ≡ added (commitment_in meant (record { unit = c.figures.number; lot = f.left.lot; megawatts = k })) (planned rule meant cs' (d - k))
       onward =
@@ -104,13 +104,13 @@ module _ {L : Type 0} (rule : RuleModel) (meant : L → LotFigures) (cs : Candid
           let left = choice (merit rule (flat later)) (used (energy cs) (unit first) p) (d - p) in
           ap (map commitment) (choice_first rule (flat qs) first (flat later) sound.orderly out (behind sound) (energy cs) d)
           ∙ (map-added (ltb 0 p) (taking first p) left
-          ∙ ap₂ added (ap₂ (λ (w : Figures) j. commitment_in meant (record { unit = w.number; lot = f.left.lot; megawatts = j })) ones part-is) (ap (map commitment) choice-is))
+          ∙ ap₂ added (ap₂ (λ (w : Figures) j. commitment_in meant (record { unit = w.number; lot = f.left.lot; megawatts = j })) ones part_is) (ap (map commitment) choice_is))
 
     pub turn : Turn rule meant d cs cs' (record { unit = c.figures.number; lot = f.left.lot; megawatts = k })
     turn = record {
-      fewer = omega (arith, length_permutation (flat qs) (first ∷ flat later) out, ap (λ q. length (flat q)) now-queues);
+      fewer = omega (arith, length_permutation (flat qs) (first ∷ flat later) out, ap (λ q. length (flat q)) now_queues);
       within = omega (arith, least);
-      still_sound = sound-after;
+      still_sound = sound_after;
       onward = onward;
     }
 

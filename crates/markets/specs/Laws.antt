@@ -53,46 +53,46 @@ module _ (t : ℕ) (u : UnitState) (st : Stands) (p : Placed u st) where
   up_most : up_eligible t u (standing u st) ≤ min (ramp t u.figures.up_rate) (u.availability - u.notification - H) - stood Up u st
   up_most = at_most (nil u || below_minimum u) (min (ramp t u.figures.up_rate) (u.availability - u.notification - H) - stood Up u st)
 
-  pub up-within : up_eligible t u (standing u st) ≤ left Up u st
-  up-within = up_bound (up_eligible t u (standing u st)) (ramp t u.figures.up_rate) u.figures.installed u.availability u.notification H (stood Up u st) (left Up u st) up_most p.closed.available (left_is Up u st p)
+  pub up_within : up_eligible t u (standing u st) ≤ left Up u st
+  up_within = up_bound (up_eligible t u (standing u st)) (ramp t u.figures.up_rate) u.figures.installed u.availability u.notification H (stood Up u st) (left Up u st) up_most p.closed.available (left_is Up u st p)
 
-  pub up-between : Asked Up (standing u st) → (m : ℕ) → m ≤ up_eligible t u (standing u st) → Between u (with_more Up m (standing u st))
-  up-between asked m h = record {
+  pub up_between : Asked Up (standing u st) → (m : ℕ) → m ≤ up_eligible t u (standing u st) → Between u (with_more Up m (standing u st))
+  up_between asked m h = record {
     under_availability = up_stays m (up_eligible t u (standing u st)) (ramp t u.figures.up_rate) u.availability u.notification H (stood Up u st) up_most p.between.under_availability h;
     over_the_floor = p.between.over_the_floor;
   }
 
-  down-most : down_eligible t u (standing u st) ≤ min (ramp t u.figures.down_rate) (u.notification - u.figures.minimum - H) - stood Down u st
-  down-most = at_most (nil u || below_minimum u) (min (ramp t u.figures.down_rate) (u.notification - u.figures.minimum - H) - stood Down u st)
+  down_most : down_eligible t u (standing u st) ≤ min (ramp t u.figures.down_rate) (u.notification - u.figures.minimum - H) - stood Down u st
+  down_most = at_most (nil u || below_minimum u) (min (ramp t u.figures.down_rate) (u.notification - u.figures.minimum - H) - stood Down u st)
 
-  pub down-within : down_eligible t u (standing u st) ≤ left Down u st
-  down-within = down_bound (down_eligible t u (standing u st)) (ramp t u.figures.down_rate) u.notification u.figures.minimum H (stood Down u st) (left Down u st) down-most (left_is Down u st p)
+  pub down_within : down_eligible t u (standing u st) ≤ left Down u st
+  down_within = down_bound (down_eligible t u (standing u st)) (ramp t u.figures.down_rate) u.notification u.figures.minimum H (stood Down u st) (left Down u st) down_most (left_is Down u st p)
 
-  pub down-between : Asked Down (standing u st) → (m : ℕ) → m ≤ down_eligible t u (standing u st) → Between u (with_more Down m (standing u st))
-  down-between asked m h = record {
+  pub down_between : Asked Down (standing u st) → (m : ℕ) → m ≤ down_eligible t u (standing u st) → Between u (with_more Down m (standing u st))
+  down_between asked m h = record {
     under_availability = p.between.under_availability;
-    over_the_floor = down_stays m (down_eligible t u (standing u st)) (ramp t u.figures.down_rate) u.notification u.figures.minimum H (stood Down u st) down-most p.between.over_the_floor h;
+    over_the_floor = down_stays m (down_eligible t u (standing u st)) (ramp t u.figures.down_rate) u.notification u.figures.minimum H (stood Down u st) down_most p.between.over_the_floor h;
   }
 
 module _ (u : UnitState) (st : Stands) (p : Placed u st) where
-  band-most : band_eligible u (standing u st) ≤ half_band u - stood Band u st
-  band-most =
+  band_most : band_eligible u (standing u st) ≤ half_band u - stood Band u st
+  band_most =
       let a = at_most (nil u || below_minimum u || not u.figures.marks.qualified) (counted u.figures.smallest_band (half_band u) - stood Band u st) in
       let b = counted_le u.figures.smallest_band (half_band u) in
       monus (band_eligible u (standing u st)) (counted u.figures.smallest_band (half_band u)) (half_band u) (stood Band u st) a b
 
-  pub band-within : band_eligible u (standing u st) ≤ left Band u st
-  band-within = band_bound (band_eligible u (standing u st)) (u.figures.largest_band / 2) u.figures.installed u.availability u.notification u.figures.minimum (stood Band u st) (left Band u st) band-most p.closed.available (left_is Band u st p)
+  pub band_within : band_eligible u (standing u st) ≤ left Band u st
+  band_within = band_bound (band_eligible u (standing u st)) (u.figures.largest_band / 2) u.figures.installed u.availability u.notification u.figures.minimum (stood Band u st) (left Band u st) band_most p.closed.available (left_is Band u st p)
 
-  pub band-between : Asked Band (standing u st) → (m : ℕ) → m ≤ band_eligible u (standing u st) → Between u (with_more Band m (standing u st))
-  band-between asked m h =
+  pub band_between : Asked Band (standing u st) → (m : ℕ) → m ≤ band_eligible u (standing u st) → Between u (with_more Band m (standing u st))
+  band_between asked m h =
       let e = band_eligible u (standing u st) in
       let r = u.figures.largest_band / 2 in
       let x : u.notification + stood Band u st ≤ u.availability = below u.notification (stood Up u st) (stood Band u st) u.availability p.between.under_availability in
       let y : floor u (standing u st) + stood Band u st ≤ u.notification = below (floor u (standing u st)) (stood Down u st) (stood Band u st) u.notification p.between.over_the_floor in
       record {
-        under_availability = no_up u.notification (stood Up u st) (stood Band u st + m) u.availability asked.0 (band_stays_over m e r u.availability u.notification u.figures.minimum (stood Band u st) band-most x h);
-        over_the_floor = no_up (floor u (standing u st)) (stood Down u st) (stood Band u st + m) u.notification asked.1 (band_stays_under m e r u.availability u.notification u.figures.minimum (stood Band u st) band-most y h);
+        under_availability = no_up u.notification (stood Up u st) (stood Band u st + m) u.availability asked.0 (band_stays_over m e r u.availability u.notification u.figures.minimum (stood Band u st) band_most x h);
+        over_the_floor = no_up (floor u (standing u st)) (stood Down u st) (stood Band u st + m) u.notification asked.1 (band_stays_under m e r u.availability u.notification u.figures.minimum (stood Band u st) band_most y h);
       }
     where
       below : (n u x a : ℕ) → n + u + x ≤ a → n + x ≤ a

@@ -4,7 +4,7 @@ use Rattle.units.specs.declared.figures.Figures.{Figures}
 use Rattle.units.specs.declared.side.Side.{Side}
 use Rattle.units.specs.declared.side.Side.TheVariants.{Up, Down, Band}
 use Rattle.markets.specs.Rules.{RuleModel}
-use Rattle.markets.specs.Orders.{lower_one, lower_on, layer, layer-one, layer-on}
+use Rattle.markets.specs.Orders.{lower_one, lower_on, layer, layer_one, layer_on}
 
 -- ---- the bottom rule: the lower number goes first
 abbrev pub lower_number : Figures → Figures → Bool
@@ -26,8 +26,8 @@ rate_of Band f = f.up_rate
 abbrev pub faster : Side → RuleModel → RuleModel
 faster side below = record {
   first = layered (rate_of side) below.first;
-  one_goes_first = layer-one (rate_of side) below;
-  goes_on = layer-on (rate_of side) below;
+  one_goes_first = layer_one (rate_of side) below;
+  goes_on = layer_on (rate_of side) below;
 }
 
 -- priority last: a unit without priority goes before one with it
@@ -37,6 +37,6 @@ without_priority f = cond f.marks.priority 0 1
 abbrev pub priority_last : RuleModel → RuleModel
 priority_last below = record {
   first = layered without_priority below.first;
-  one_goes_first = layer-one without_priority below;
-  goes_on = layer-on without_priority below;
+  one_goes_first = layer_one without_priority below;
+  goes_on = layer_on without_priority below;
 }

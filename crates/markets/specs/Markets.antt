@@ -5,17 +5,17 @@ use Rattle.units.specs.declared.side.MarketNumber.{MarketNumber}
 use Rattle.units.specs.declared.side.MarketNumber.TheVariants.{Band as Secondary, FastUp, FastDown, SlowUp, SlowDown}
 use Rattle.markets.specs.Models.{MarketModel}
 use Rattle.markets.specs.Energy.{fast_minutes, slow_minutes, up_eligible, down_eligible, band_eligible}
-use Rattle.markets.specs.Laws.{up-within, up-between, down-within, down-between, band-within, band-between}
+use Rattle.markets.specs.Laws.{up_within, up_between, down_within, down_between, band_within, band_between}
 
 -- energy up, and down, that is reached within so many minutes: 15 for fast, 30 for slow
 abbrev pub up_market : ℕ → MarketModel
-up_market minutes = record { side = Up; eligible = up_eligible minutes; within_remainders = up-within minutes; keeps_between = up-between minutes }
+up_market minutes = record { side = Up; eligible = up_eligible minutes; within_remainders = up_within minutes; keeps_between = up_between minutes }
 
 abbrev pub down_market : ℕ → MarketModel
-down_market minutes = record { side = Down; eligible = down_eligible minutes; within_remainders = down-within minutes; keeps_between = down-between minutes }
+down_market minutes = record { side = Down; eligible = down_eligible minutes; within_remainders = down_within minutes; keeps_between = down_between minutes }
 
 abbrev pub band_market : MarketModel
-band_market = record { side = Band; eligible = band_eligible; within_remainders = band-within; keeps_between = band-between }
+band_market = record { side = Band; eligible = band_eligible; within_remainders = band_within; keeps_between = band_between }
 
 -- the market with each number
 abbrev pub market_of : MarketNumber → MarketModel

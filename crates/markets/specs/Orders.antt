@@ -57,12 +57,12 @@ passed x y z p q r f (inr (e, h)) (inr (g, k)) = level x z r (e ∙ g) ∙ f h k
 
 -- a layer over a lawful rule keeps the laws
 module _ (worth : Figures → ℕ) (below : RuleModel) where
-  pub layer-one : (a b : Figures) → Accepted a → Accepted b → Apart a b →
+  pub layer_one : (a b : Figures) → Accepted a → Accepted b → Apart a b →
       layer (worth a) (worth b) (below.first a b) ≡ not (layer (worth b) (worth a) (below.first b a))
-  layer-one a b p q n = turned (worth a) (worth b) (below.first a b) (below.first b a) (below.one_goes_first a b p q n)
+  layer_one a b p q n = turned (worth a) (worth b) (below.first a b) (below.first b a) (below.one_goes_first a b p q n)
 
-  pub layer-on : (a b c : Figures) → Accepted a → Accepted b → Accepted c → Apart a b → Apart b c → Apart a c →
+  pub layer_on : (a b c : Figures) → Accepted a → Accepted b → Accepted c → Apart a b → Apart b c → Apart a c →
       layer (worth a) (worth b) (below.first a b) ≡ true → layer (worth b) (worth c) (below.first b c) ≡ true → layer (worth a) (worth c) (below.first a c) ≡ true
-  layer-on a b c p q r x y z h k =
+  layer_on a b c p q r x y z h k =
       passed (worth a) (worth b) (worth c) (below.first a b) (below.first b c) (below.first a c) (below.goes_on a b c p q r x y z)
       (told (worth a) (worth b) (below.first a b) h) (told (worth b) (worth c) (below.first b c) k)

@@ -4,7 +4,7 @@ use Rattle.std.proofs.lemmas.List.{length-drop}
 use Rattle.ledger.specs.Ledger.{Ledger}
 use Rattle.records.specs.Frames.{Framed, frame_of, next_at, place_after}
 use Rattle.records.specs.Playing.{FaultFigures, taken_up, from_next, played_from, played_on}
-use Rattle.records.proofs.Cutting.{frame-within}
+use Rattle.records.proofs.Cutting.{frame_within}
 
 -- the records from this place on, with this ledger, give what all of them give from the ledger at the start
 pub record Left (start : Ledger) (bytes : List ℕ) (at : ℕ) (l : Ledger) : Type 0 where
@@ -30,7 +30,7 @@ place_within : (bytes : List ℕ) (at : ℕ) (r : Result Framed ℕ) → Some r 
 place_within bytes at (Err number) e h = h
 place_within bytes at (Ok f) e h =
     let p = there_only (ltb at (length bytes)) (Ok f) (frame_of at (drop at bytes)) e in
-    omega (arith, frame-within at (drop at bytes) f p.1, length-drop at bytes)
+    omega (arith, frame_within at (drop at bytes) f p.1, length-drop at bytes)
 
 -- a record that is no fault is passed
 passes : (at : ℕ) (l : Ledger) (r : Result Framed ℕ) → None ≡ (taken_up at l r).1 → at < place_after at (Some r)
@@ -52,25 +52,25 @@ module _ {start : Ledger} {bytes : List ℕ} {at : ℕ} {l : Ledger} (left : Lef
 
   -- what was found, and what taking it up gave
   module _ (r : Result Framed ℕ) (found : Some r ≡ next_at bytes at) (offset : ℕ) (here : offset ≡ at) (l' : Ledger) (after : l' ≡ (taken_up offset l r).0) where
-    ledger-is : l' ≡ (taken_up at l r).0
-    ledger-is = after ∙ ap (λ n. (taken_up n l r).0) here
+    ledger_is : l' ≡ (taken_up at l r).0
+    ledger_is = after ∙ ap (λ n. (taken_up n l r).0) here
 
-    fault-is : {f : Option FaultFigures} → f ≡ (taken_up offset l r).1 → f ≡ (taken_up at l r).1
-    fault-is e = e ∙ ap (λ n. (taken_up n l r).1) here
+    fault_is : {f : Option FaultFigures} → f ≡ (taken_up offset l r).1 → f ≡ (taken_up at l r).1
+    fault_is e = e ∙ ap (λ n. (taken_up n l r).1) here
 
-    pub left-fault : (f : FaultFigures) → Some f ≡ (taken_up offset l r).1 → (l', Some f) ≡ played_on start bytes
-    left-fault f e = rw ledger-is (rw (sym (fault-is e)) at (decides (Some r) found))
+    pub left_fault : (f : FaultFigures) → Some f ≡ (taken_up offset l r).1 → (l', Some f) ≡ played_on start bytes
+    left_fault f e = rw ledger_is (rw (sym (fault_is e)) at (decides (Some r) found))
 
-    pub left-more : (to : ℕ) → None ≡ (taken_up offset l r).1 → to ≡ place_after at (next_at bytes at) → Onward start bytes at to l'
-    left-more to e p =
+    pub left_more : (to : ℕ) → None ≡ (taken_up offset l r).1 → to ≡ place_after at (next_at bytes at) → Onward start bytes at to l'
+    left_more to e p =
         let q : to ≡ place_after at (Some r) = p ∙ ap (place_after at) (sym found) in
-        let rises : at < to = rw q (passes at l r (fault-is e)) in
+        let rises : at < to = rw q (passes at l r (fault_is e)) in
         record {
           left = record {
             fuel = left.fuel - 1;
             enough = omega arith;
             within = rw q (place_within bytes at r found left.within);
-            same = rw (ledger-is, p) (rw (sym (fault-is e)) at (decides (Some r) found));
+            same = rw (ledger_is, p) (rw (sym (fault_is e)) at (decides (Some r) found));
           };
           rises = rises;
         }

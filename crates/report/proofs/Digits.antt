@@ -37,11 +37,11 @@ module _ {old : List ℕ} {at n left : ℕ} {out : List ℕ} {from : ℕ} (s : S
       let b : from - 1 + 1 ≡ from = omega arith in
       drop-set out (from - 1) v (omega arith) ∙ ap (λ k. v ∷ drop k out) b
 
-  pub spelling-room : 1 ≤ from
-  spelling-room = omega (arith, decimal_nonempty left (omega arith))
+  pub spelling_room : 1 ≤ from
+  spelling_room = omega (arith, decimal_nonempty left (omega arith))
 
-  pub spelling-more : 10 ≤ left → Spelling old at n (left / 10) (set out (from - 1) (48 + left % 10)) (from - 1)
-  spelling-more h =
+  pub spelling_more : 10 ≤ left → Spelling old at n (left / 10) (set out (from - 1) (48 + left % 10)) (from - 1)
+  spelling_more h =
       let d = 48 + left % 10 in
       let st : decimal left ≡ decimal (left / 10) ++ (d ∷ []) = decimal_step left h (omega arith) in
       let ln = longer left h s.small in
@@ -52,12 +52,12 @@ module _ {old : List ℕ} {at n left : ℕ} {out : List ℕ} {from : ℕ} (s : S
         small = omega arith;
         place = omega arith;
         high = omega arith;
-        holds = rw (ts, written d spelling-room) (ap (λ l. take at out ++ l) (sym (append_assoc (decimal (left / 10)) (d ∷ []) (drop from out))) ∙ (rw st at s.holds));
+        holds = rw (ts, written d spelling_room) (ap (λ l. take at out ++ l) (sym (append_assoc (decimal (left / 10)) (d ∷ []) (drop from out))) ∙ (rw st at s.holds));
       }
 
   -- the first digit ends it
-  pub spelling-last : left < 10 → Written old at (decimal n) (set out at (48 + left)) (at + length (decimal n))
-  spelling-last h =
+  pub spelling_last : left < 10 → Written old at (decimal n) (set out at (48 + left)) (at + length (decimal n))
+  spelling_last h =
       let e : decimal left ≡ (48 + left) ∷ [] = decimal_digit left h in
       let f : from ≡ suc at = omega (arith, ap length e) in
       record {

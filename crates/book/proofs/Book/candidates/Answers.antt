@@ -1,23 +1,21 @@
-use Rattle.std.proofs.Common.{◌≡◌, ◌+◌, ◌<◌, ◌≤◌, true, cond, List, [], map, length, get_or, take, sym, refl, ap, ◌∙◌, subst, ap₂, arith}
+use Rattle.std.proofs.Common.{◌≡◌, ◌<◌, ◌≤◌, true, cond, [], map, length, get_or, sym, ap, ◌∙◌, subst, ap₂, arith}
 use denote.Memory.{lone}
 use prog.Memory.{size, align}
 use Rattle.std.proofs.ByRecursion.{All-get_or}
 use Rattle.std.proofs.lemmas.List.{length-map, length_push, take_all}
 use Rattle.std.proofs.lemmas.Bool.{cond-true}
 use Rattle.units.specs.Units.{UnitState}
-use Rattle.lots.specs.Lots.{LotFigures, lots}
-use Rattle.lots.specs.declared.standing.Standing.{Standing}
+use Rattle.lots.specs.Lots.{lots}
 use Rattle.markets.specs.Candidates.{remaining, entered, units_in}
 use Rattle.ledger.specs.Invariant.{Kept}
 use Rattle.ledger.specs.Selections.{number, standing_of}
 use Rattle.book.specs.Books.{ledger_of}
 use Rattle.book.specs.Tables.{unit_of}
 use Rattle.book.specs.StandingTables.{StandsAt}
-use Rattle.book.specs.Choosing.{left_at, candidate_of, Entered}
+use Rattle.book.specs.Choosing.{left_at, Entered}
 use Rattle.book.proofs.Room.{table_fits}
 use Rattle.book.proofs.Standing.{invariant}
-use Rattle.book.proofs.Entering.{unit_read, lots-left, entered_more}
-use Rattle.book.proofs.Book.candidates.Given as given
+use Rattle.book.proofs.Entering.{unit_read, lots_left, entered_more}
 use Rattle.book.proofs.Book.candidates.Goals as goal
 
 pub enter-requires : goal.enter-requires
@@ -58,7 +56,7 @@ loop-place-preserved g c =
       ap length more.enters_the_unit ∙ (length_push (units_in c.loop-place.candidates) (entered u.figures c.eligible-eligible.result (length own)) ∙ omega (arith, c.loop-place.invariant.0)),
       λ serves. entered_more meant m l.units l.rows c.loop-place.candidates c.enter.new.candidates i u
           (entered u.figures c.eligible-eligible.result (length own)) (map (remaining meant u.figures) (map (left_at meant t i) own)) h at
-          (ap₂ (entered u.figures) energy (sym (length-map own meant) ∙ ap length (listed serves))) (lots-left meant t i l.rows u stands m.side own (listed serves) few)
+          (ap₂ (entered u.figures) energy (sym (length-map own meant) ∙ ap length (listed serves))) (lots_left meant t i l.rows u stands m.side own (listed serves) few)
           more.enters_the_unit more.enters_its_lots (c.loop-place.invariant.1 serves),
     )
 

@@ -12,4 +12,4 @@ invariant_of-self c =
     let call : Call = closing c.args.price in
     let l : Ledger = record { closed = true; units = units_of c.close.new.self; rows = rows_of b.rows; given = b.given } in
     let e : l ≡ (step (ledger_of b) call).0 = search rules in
-    leads_on (ledger_of b) l call b.reached e
+    record { reached = leads_on (ledger_of b) l call b.reached e }

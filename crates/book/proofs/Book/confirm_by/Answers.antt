@@ -19,4 +19,4 @@ invariant_of-self c =
     let call : Call = confirming c.args.figures.now in
     let l : Ledger = record { closed = b.closed; units = units_of b.units; rows = rows_of c.confirm.new.self; given = b.given } in
     let e : l ≡ (step (ledger_of b) call).0 = search rules in
-    leads_on (ledger_of b) l call b.reached e
+    record { reached = leads_on (ledger_of b) l call b.reached e }

@@ -1,4 +1,4 @@
-use Rattle.std.proofs.Common.{◌≡◌, ◌^◌, ◌<◌, map, subst, arith}
+use Rattle.std.proofs.Common.{◌^◌, ◌<◌, map, subst, arith}
 use Rattle.lots.specs.Sums.{sum_of}
 use Rattle.book.specs.Books.{ledger_of}
 use Rattle.book.specs.Tables.{unit_of}

@@ -8,23 +8,23 @@ use Rattle.book.specs.Books.{ledger_of}
 use Rattle.book.specs.Adding.{row_by}
 use Rattle.book.specs.Slips.{figures_of}
 use Rattle.book.proofs.Standing.{SmallRows}
-use Rattle.book.proofs.Taking.{refused-rows, made-rows}
+use Rattle.book.proofs.Taking.{refused_rows, made_rows}
 use Rattle.book.proofs.Book.take.Goals as goal
 
 pub invariant_of-self : goal.invariant_of-self
 invariant_of-self g c =
     let b = c.args.self.now in
     let e = c.in_default.ensures in
-    let r = refused-rows (g.M.Market.model c.args.market.now) (g.R.TieRule.model c.args.rule.now) c.args.carried c.args.demand (ledger_of b) (rows_of c.add.new.self) c.requires.allowed
+    let r = refused_rows (g.M.Market.model c.args.market.now) (g.R.TieRule.model c.args.rule.now) c.args.carried c.args.demand (ledger_of b) (rows_of c.add.new.self) c.requires.allowed
     b.reached g.L.Lot.figures _ c.lots.result.now c.lots.ensures.lends_the_chosen_lots
     (c.choose_by-choice.ensures.takes_what_a_selection_takes_after_closing c.requires.allowed.closed c.requires.serves) e.tells_whether_there_is_room e.adds_a_row_for_each_or_changes_nothing in
-    r.reached
+    record { reached = r.reached }
 
 pub returns-in_default : goal.returns-in_default
 returns-in_default g c =
     let b = c.args.self.now in
     let e = c.in_default.ensures in
-    let r = refused-rows (g.M.Market.model c.args.market.now) (g.R.TieRule.model c.args.rule.now) c.args.carried c.args.demand (ledger_of b) (rows_of c.add.new.self) c.requires.allowed
+    let r = refused_rows (g.M.Market.model c.args.market.now) (g.R.TieRule.model c.args.rule.now) c.args.carried c.args.demand (ledger_of b) (rows_of c.add.new.self) c.requires.allowed
     b.reached g.L.Lot.figures _ c.lots.result.now c.lots.ensures.lends_the_chosen_lots
     (c.choose_by-choice.ensures.takes_what_a_selection_takes_after_closing c.requires.allowed.closed c.requires.serves) e.tells_whether_there_is_room e.adds_a_row_for_each_or_changes_nothing in
     record { answers_by_the_last_line = r.answer; takes_or_changes_nothing = r.becomes }
@@ -33,10 +33,10 @@ pub invariant_of-self-2 : goal.invariant_of-self-2
 invariant_of-self-2 g c =
     let b = c.args.self.now in
     let e = c.in-true.ensures in
-    let r = made-rows (g.M.Market.model c.args.market.now) (g.R.TieRule.model c.args.rule.now) c.args.carried c.args.demand (ledger_of b) (rows_of c.add.new.self) c.requires.allowed
+    let r = made_rows (g.M.Market.model c.args.market.now) (g.R.TieRule.model c.args.rule.now) c.args.carried c.args.demand (ledger_of b) (rows_of c.add.new.self) c.requires.allowed
     b.reached g.L.Lot.figures _ c.lots.result.now c.lots.ensures.lends_the_chosen_lots
     (c.choose_by-choice.ensures.takes_what_a_selection_takes_after_closing c.requires.allowed.closed c.requires.serves) e.tells_whether_there_is_room e.adds_a_row_for_each_or_changes_nothing in
-    r.reached
+    record { reached = r.reached }
 
 pub from-requires : goal.from-requires
 from-requires g c =
@@ -48,7 +48,7 @@ pub open_sums-sums-requires : goal.open_sums-sums-requires
 open_sums-sums-requires g c =
     let b = c.args.self.now in
     let e = c.in-true.ensures in
-    let r = made-rows (g.M.Market.model c.args.market.now) (g.R.TieRule.model c.args.rule.now) c.args.carried c.args.demand (ledger_of b) (rows_of c.add.new.self) c.requires.allowed
+    let r = made_rows (g.M.Market.model c.args.market.now) (g.R.TieRule.model c.args.rule.now) c.args.carried c.args.demand (ledger_of b) (rows_of c.add.new.self) c.requires.allowed
     b.reached g.L.Lot.figures _ c.lots.result.now c.lots.ensures.lends_the_chosen_lots
     (c.choose_by-choice.ensures.takes_what_a_selection_takes_after_closing c.requires.allowed.closed c.requires.serves) e.tells_whether_there_is_room e.adds_a_row_for_each_or_changes_nothing in
     let is : c.from.result.now ≡ drop (length (ledger_of b).rows) (rows_of c.add.new.self) =
@@ -59,7 +59,7 @@ pub returns : goal.returns
 returns g c =
     let b = c.args.self.now in
     let e = c.in-true.ensures in
-    let r = made-rows (g.M.Market.model c.args.market.now) (g.R.TieRule.model c.args.rule.now) c.args.carried c.args.demand (ledger_of b) (rows_of c.add.new.self) c.requires.allowed
+    let r = made_rows (g.M.Market.model c.args.market.now) (g.R.TieRule.model c.args.rule.now) c.args.carried c.args.demand (ledger_of b) (rows_of c.add.new.self) c.requires.allowed
     b.reached g.L.Lot.figures _ c.lots.result.now c.lots.ensures.lends_the_chosen_lots
     (c.choose_by-choice.ensures.takes_what_a_selection_takes_after_closing c.requires.allowed.closed c.requires.serves) e.tells_whether_there_is_room e.adds_a_row_for_each_or_changes_nothing in
     let is : c.from.result.now ≡ drop (length (ledger_of b).rows) (rows_of c.add.new.self) =

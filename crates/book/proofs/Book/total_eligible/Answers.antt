@@ -1,4 +1,4 @@
-use Rattle.std.proofs.Common.{◌≡◌, ℕ, ◌+◌, ◌*◌, ◌<◌, ◌≤◌, length, get_or, take, sym, ap, ◌∙◌, subst, arith}
+use Rattle.std.proofs.Common.{◌≡◌, ℕ, ◌<◌, length, get_or, sym, ap, ◌∙◌, subst, arith}
 use Rattle.std.proofs.lemmas.List.{length-map, take_all}
 use Rattle.lots.specs.Sums.{sum_of}
 use Rattle.units.specs.Units.{UnitState}
@@ -15,7 +15,7 @@ overflow_add-total g c =
     let b = c.args.self.now in
     let es = c.as_slice-entry-items.result.now in
     let long : length es ≡ length (ledger_of b).units = sym (length-map es unit_of) ∙ ap length c.as_slice-entry-items.ensures.lends_the_units in
-    omega (arith, c.loop-place.invariant.1, c.eligible.type-inv, long, c.loop-place-test.true, (invariant b).few_units)
+    omega (arith, c.loop-place.invariant.1, c.eligible.type_inv, long, c.loop-place-test.true, (invariant b).few_units)
 
 pub loop-place-preserved : goal.loop-place-preserved
 loop-place-preserved g c =
@@ -35,7 +35,7 @@ loop-place-preserved g c =
     let energy : c.eligible.result ≡ f u = c.eligible.ensures.is_the_eligible_energy_of_the_model ∙ ap (m.eligible u) (c.sides.ensures.reads_the_sides ∙ stands.sides) in
     let more = sum_more f l.units i u h in
     let same : f (get_or l.units i u) ≡ f u = ap f at in
-    (omega (arith, c.loop-place.invariant.0, energy, more, same), omega (arith, c.loop-place.invariant.1, c.eligible.type-inv))
+    (omega (arith, c.loop-place.invariant.0, energy, more, same), omega (arith, c.loop-place.invariant.1, c.eligible.type_inv))
 
 pub returns : goal.returns
 returns g c =

@@ -1,4 +1,4 @@
-use Rattle.std.proofs.Common.{◌≡◌, ◌*◌, ◌≤◌, length, take}
+use Rattle.std.proofs.Common.{◌≡◌, ◌*◌, ◌≤◌, take}
 use Rattle.lots.specs.Sums.{sum_of}
 use Rattle.ledger.specs.Selections.{number, standing_of}
 use Rattle.book.specs.Books.{ledger_of}

@@ -4,7 +4,7 @@ use Rattle.std.proofs.lemmas.Int.{ints}
 use Rattle.ledger.specs.Marginal.{highest, upper_price}
 use Rattle.book.specs.Marginals.{higher}
 use Rattle.book.specs.Tables.{units_of}
-use Rattle.book.proofs.Pricing.{highest_push, row_counts, row-counts-not}
+use Rattle.book.proofs.Pricing.{highest_push, row_counts, row_counts_not}
 use Rattle.book.proofs.marginal.highest_upper.Goals as goal
 use Rattle.book.proofs.marginal.highest_upper.Goals.{then-number, else-number}
 
@@ -19,7 +19,7 @@ loop-row-preserved c =
           let more = row_counts highest higher highest_push price c.args.market c.args.rows.now i _ c.loop-row-test.true own _ (z ∙ w.row_price.ensures.is_the_price_in_the_offer) in
           w.best-is ∙ (w.higher-best.ensures.is_the_higher ∙ (ap (λ b. higher b (to_z w32 (of_z w32 w.row_price.result))) c.loop-row.invariant ∙ more))
       | else-number w ↦
-          w.best-is ∙ (c.loop-row.invariant ∙ row-counts-not highest higher highest_push price c.args.market c.args.rows.now i _ c.loop-row-test.true
+          w.best-is ∙ (c.loop-row.invariant ∙ row_counts_not highest higher highest_push price c.args.market c.args.rows.now i _ c.loop-row-test.true
           (λ e. w.if-number.false (c.number.ensures.is_the_number_of_the_market ∙ (e ∙ sym c.number-in-loop-row.ensures.is_the_number_of_the_market))))
     ]
 

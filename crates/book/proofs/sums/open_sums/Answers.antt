@@ -4,7 +4,7 @@ use Rattle.std.proofs.lemmas.List.{get_or_default}
 use Rattle.std.proofs.lemmas.Int.{ints}
 use Rattle.ledger.specs.declared.row.Row.{Row}
 use Rattle.book.proofs.Searching.{no_row}
-use Rattle.book.proofs.Amounts.{adding_more, some-added, megawatts-added, cost_added}
+use Rattle.book.proofs.Amounts.{adding_more, some_added, megawatts_added, cost_added}
 use Rattle.book.proofs.sums.open_sums.Goals as goal
 
 pub part_of-part-requires : goal.part_of-part-requires
@@ -26,7 +26,7 @@ returns c =
     let inv = c.loop-row.invariant in
     let all = c.loop-row-test.false in
     record {
-      tells_whether_there_are_some = some-added inv all;
-      adds_the_megawatts = megawatts-added inv all;
+      tells_whether_there_are_some = some_added inv all;
+      adds_the_megawatts = megawatts_added inv all;
       adds_the_cost = cost_added inv all;
     }

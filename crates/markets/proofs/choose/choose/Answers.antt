@@ -1,11 +1,11 @@
 use Rattle.std.proofs.Common.{arith}
-use Rattle.markets.proofs.Filling.{so-far-none, so_far_more, so-far-all, plan-filled, plan-empty}
+use Rattle.markets.proofs.Filling.{so_far_none, so_far_more, so_far_all, plan_filled, plan_empty}
 use Rattle.markets.proofs.choose.choose.Goals as goal
 
 pub loop-unfilled-init : goal.loop-unfilled-init
 loop-unfilled-init g c =
     let new = c.new-choice.ensures in
-    so-far-none (g.R.TieRule.model c.args.rule.now) g.L.Lot.figures c.args.candidates c.args.demand c.new-choice.result new.has_no_lots new.counts_none.0 new.counts_none.1
+    so_far_none (g.R.TieRule.model c.args.rule.now) g.L.Lot.figures c.args.candidates c.args.demand c.new-choice.result new.has_no_lots new.counts_none.0 new.counts_none.1
 
 pub returns-in_default : goal.returns-in_default
 returns-in_default g c =
@@ -13,8 +13,8 @@ returns-in_default g c =
     let meant = g.L.Lot.figures in
     let so = c.loop-unfilled.invariant in
     record {
-      chooses_in_merit_order = so-far-all rule meant c.args.candidates c.args.demand c.loop-unfilled.candidates c.loop-unfilled.unfilled c.loop-unfilled.choice so
-          (plan-empty rule meant c.args.candidates c.args.demand c.loop-unfilled.candidates c.loop-unfilled.unfilled c.in_default.ensures.takes_from_the_first_lot);
+      chooses_in_merit_order = so_far_all rule meant c.args.candidates c.args.demand c.loop-unfilled.candidates c.loop-unfilled.unfilled c.loop-unfilled.choice so
+          (plan_empty rule meant c.args.candidates c.args.demand c.loop-unfilled.candidates c.loop-unfilled.unfilled c.in_default.ensures.takes_from_the_first_lot);
       counts_the_megawatts = (so.summed, omega (arith, so.whole));
     }
 
@@ -31,7 +31,7 @@ returns g c =
     let meant = g.L.Lot.figures in
     let so = c.loop-unfilled.invariant in
     record {
-      chooses_in_merit_order = so-far-all rule meant c.args.candidates c.args.demand c.loop-unfilled.candidates c.loop-unfilled.unfilled c.loop-unfilled.choice so
-          (plan-filled rule meant c.args.candidates c.args.demand c.loop-unfilled.candidates c.loop-unfilled.unfilled (omega arith));
+      chooses_in_merit_order = so_far_all rule meant c.args.candidates c.args.demand c.loop-unfilled.candidates c.loop-unfilled.unfilled c.loop-unfilled.choice so
+          (plan_filled rule meant c.args.candidates c.args.demand c.loop-unfilled.candidates c.loop-unfilled.unfilled (omega arith));
       counts_the_megawatts = (so.summed, omega (arith, so.whole));
     }

@@ -3,7 +3,7 @@ use Rattle.book.specs.Books.{ledger_of}
 use Rattle.records.specs.Readers.{framed}
 use Rattle.records.specs.Faults.{fault_figures}
 use Rattle.records.specs.Playing.{Outcome}
-use Rattle.records.proofs.Playing.{Onward, left_none, left_end, left-fault, left-more}
+use Rattle.records.proofs.Playing.{Onward, left_none, left_end, left_fault, left_more}
 use Rattle.records.proofs.play.play_on.Goals as goal
 
 pub loop-found-init : goal.loop-found-init
@@ -18,7 +18,7 @@ pub returns-in-Err : goal.returns-in-Err
 returns-in-Err c =
     let found = rw c.loop-found.invariant.0 at c.in-Some.ensures.gives_the_frame_at_its_place in
     let up = c.in-Err.ensures in
-    let e = left-fault c.loop-found.invariant.1 (framed c.in-Some.found) found c.offset-offset.result c.offset-offset.ensures.is_the_place (ledger_of c.take_up.new.book) up.is_the_ledger_after_the_record (fault_figures c.in-Err.fault) up.stopped_by_the_first_layer in
+    let e = left_fault c.loop-found.invariant.1 (framed c.in-Some.found) found c.offset-offset.result c.offset-offset.ensures.is_the_place (ledger_of c.take_up.new.book) up.is_the_ledger_after_the_record (fault_figures c.in-Err.fault) up.stopped_by_the_first_layer in
     record { book_is_the_ledger_of_the_records = ap (λ (o : Outcome). o.0) e; fault_is_the_first_of_the_records = ap (λ (o : Outcome). o.1) e }
 
 onward : (c : goal.In-default-take_up) → Onward (ledger_of c.args.book.now) c.args.src.now c.loop-found.reader.at c.next.new.self.at (ledger_of c.take_up.new.book)
@@ -27,7 +27,7 @@ onward c =
     let found = rw c.loop-found.invariant.0 at next.gives_the_frame_at_its_place in
     let place = rw c.loop-found.invariant.0 at next.moves_past_the_frame in
     let up = c.in_default-take_up.ensures in
-    left-more c.loop-found.invariant.1 (framed c.in-Some.found) found c.offset-offset.result c.offset-offset.ensures.is_the_place (ledger_of c.take_up.new.book) up.is_the_ledger_after_the_record c.next.new.self.at up.stopped_by_the_first_layer place
+    left_more c.loop-found.invariant.1 (framed c.in-Some.found) found c.offset-offset.result c.offset-offset.ensures.is_the_place (ledger_of c.take_up.new.book) up.is_the_ledger_after_the_record c.next.new.self.at up.stopped_by_the_first_layer place
 
 pub loop-found-preserved : goal.loop-found-preserved
 loop-found-preserved c = (c.in-Some.ensures.keeps_the_bytes ∙ c.loop-found.invariant.0, (onward c).left)

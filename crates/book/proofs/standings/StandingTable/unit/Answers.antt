@@ -1,7 +1,7 @@
 use Rattle.std.proofs.Common.{[], sym, ap, ◌∙◌}
 use Rattle.book.specs.Squares.{cell}
 use Rattle.book.specs.StandingTables.{no_sides}
-use Rattle.book.proofs.Tallying.{field-read, field_past}
+use Rattle.book.proofs.Tallying.{field_read, field_past}
 use Rattle.book.proofs.standings.StandingTable.unit.Goals as goal
 
 pub returns-then-place-lt32 : goal.returns-then-place-lt32
@@ -10,8 +10,8 @@ returns-then-place-lt32 c =
     let p = c.args.place in
     let s = c.index-self-place.result in
     record {
-      has_the_sides = field-read (λ u. u.sides) no_sides t p s c.if-place-lt32.true;
-      has_the_lots = λ i j. ap (λ square. cell square i j) (field-read (λ u. u.lots) [] t p s c.if-place-lt32.true);
+      has_the_sides = field_read (λ u. u.sides) no_sides t p s c.if-place-lt32.true;
+      has_the_lots = λ i j. ap (λ square. cell square i j) (field_read (λ u. u.lots) [] t p s c.if-place-lt32.true);
     }
 
 pub returns-else-place-lt32 : goal.returns-else-place-lt32

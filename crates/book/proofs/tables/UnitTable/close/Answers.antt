@@ -1,4 +1,4 @@
-use Rattle.std.proofs.Common.{◌≡◌, map, sym, refl, ap, ◌∙◌, arith, w32, to_z, of_z, rules}
+use Rattle.std.proofs.Common.{map, sym, refl, ap, ◌∙◌, arith, w32, to_z, of_z, rules}
 use mir.ValLaws.{to_z-of_z}
 use Rattle.units.specs.Units.{closed_at}
 use Rattle.book.specs.declared.tables.UnitEntry.{UnitEntry}

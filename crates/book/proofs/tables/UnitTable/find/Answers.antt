@@ -1,8 +1,8 @@
-use Rattle.std.proofs.Common.{◌≡◌, ◌≤◌, length, get_or, sym, ap, ◌∙◌, arith}
+use Rattle.std.proofs.Common.{◌≡◌, get_or, ap, arith}
 use Rattle.book.specs.declared.tables.UnitEntry.{UnitEntry}
 use Rattle.book.specs.Tables.{unit_of, units_of}
-use Rattle.book.proofs.Listed.{count_units, unit-at}
-use Rattle.book.proofs.Searching.{searching_none, searching-more, searching-found, searching_all}
+use Rattle.book.proofs.Listed.{count_units, unit_at}
+use Rattle.book.proofs.Searching.{searching_none, searching_more, searching_found, searching_all}
 use Rattle.book.proofs.tables.UnitTable.find.Goals as goal
 
 pub loop-i-init : goal.loop-i-init
@@ -14,8 +14,8 @@ returns-then-unit-number c =
     let i = c.loop-i.i in
     let e : UnitEntry = get_or t.entries i c.index-self-i.result in
     let is : e ≡ get_or t.entries i e = ap (get_or t.entries i) c.index-self-i.is in
-    let u = unit-at t.entries t.count (omega arith) i e (unit_of e) (omega arith) is in
-    record { finds_the_unit = searching-found c.loop-i.invariant (omega (arith, count_units t)) (unit_of e) u c.if-unit-number.true }
+    let u = unit_at t.entries t.count (omega arith) i e (unit_of e) (omega arith) is in
+    record { finds_the_unit = searching_found c.loop-i.invariant (omega (arith, count_units t)) (unit_of e) u c.if-unit-number.true }
 
 pub loop-i-preserved : goal.loop-i-preserved
 loop-i-preserved c =
@@ -23,8 +23,8 @@ loop-i-preserved c =
     let i = c.loop-i.i in
     let e : UnitEntry = get_or t.entries i c.index-self-i.result in
     let is : e ≡ get_or t.entries i e = ap (get_or t.entries i) c.index-self-i.is in
-    let u = unit-at t.entries t.count (omega arith) i e (unit_of e) (omega arith) is in
-    searching-more c.loop-i.invariant (omega (arith, count_units t)) (unit_of e) u c.if-unit-number.false
+    let u = unit_at t.entries t.count (omega arith) i e (unit_of e) (omega arith) is in
+    searching_more c.loop-i.invariant (omega (arith, count_units t)) (unit_of e) u c.if-unit-number.false
 
 pub returns : goal.returns
 returns c = record { finds_the_unit = searching_all c.loop-i.invariant (omega (arith, count_units c.args.self.now)) }

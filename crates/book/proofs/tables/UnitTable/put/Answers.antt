@@ -1,5 +1,5 @@
 use Rattle.std.proofs.Common.{arith, rules}
-use Rattle.book.proofs.Listed.{count_units, put-at}
+use Rattle.book.proofs.Listed.{count_units, put_at}
 use Rattle.book.proofs.tables.UnitTable.put.Goals as goal
 
 pub offset_bounds-self-place : goal.offset_bounds-self-place
@@ -12,4 +12,4 @@ pub bounds-self-place : goal.bounds-self-place
 bounds-self-place c = omega (arith, count_units c.args.self.now)
 
 pub returns : goal.returns
-returns c = let k = count_units c.args.self.now in search (rules, put-at)
+returns c = let k = count_units c.args.self.now in search (rules, put_at)

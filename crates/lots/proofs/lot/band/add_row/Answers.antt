@@ -3,7 +3,7 @@ use Rattle.std.proofs.lemmas.List.{append-nil}
 use Rattle.std.proofs.ByRecursion.{All-get_or}
 use Rattle.lots.specs.Lots.{band_lot}
 use Rattle.lots.specs.Values.{listed, band_figures}
-use Rattle.lots.proofs.Filling.{no_span, Priced, still_after, still_one, still-all, turned_whole, turned_more, turned_end, no_row}
+use Rattle.lots.proofs.Filling.{no_span, Priced, still_after, still_one, still_all, turned_whole, turned_more, turned_end, no_row}
 use Rattle.lots.proofs.lot.band.add_row.Goals as goal
 
 pub returns-then-s-n : goal.returns-then-s-n
@@ -32,6 +32,6 @@ loop-i-preserved c =
 
 pub returns : goal.returns
 returns c = record {
-  adds_the_lots_of_an_upper_pair = still-all c.loop-i.invariant.1 (turned_end (band_lot c.args.n c.args.s.now) c.args.spans.now c.loop-i.i c.loop-i-test.false);
+  adds_the_lots_of_an_upper_pair = still_all c.loop-i.invariant.1 (turned_end (band_lot c.args.n c.args.s.now) c.args.spans.now c.loop-i.i c.loop-i-test.false);
   counts_one_more_a_pair_at_most = omega (arith, c.loop-i.invariant.0);
 }

@@ -1,10 +1,10 @@
 use Rattle.std.proofs.Common.{refl, arith}
 use Rattle.lots.specs.Lots.{up_lot}
-use Rattle.lots.proofs.Filling.{no_span, still-none, still_one, still-all, map-drop, map_end, energy_size}
+use Rattle.lots.proofs.Filling.{no_span, still_none, still_one, still_all, map-drop, map_end, energy_size}
 use Rattle.lots.proofs.lot.energy.up_lots.Goals as goal
 
 pub loop-i-init : goal.loop-i-init
-loop-i-init c = (omega arith, still-none c.no_lots-list.ensures.has_no_lots refl)
+loop-i-init c = (omega arith, still_none c.no_lots-list.ensures.has_no_lots refl)
 
 pub add-requires : goal.add-requires
 add-requires c = (omega arith, omega (arith, c.loop-i.invariant.0))
@@ -17,4 +17,4 @@ loop-i-preserved c =
     )
 
 pub returns : goal.returns
-returns c = record { lists_the_up_lots = still-all c.loop-i.invariant.1 (map_end (up_lot c.args.n) c.args.spans.now c.loop-i.i c.loop-i-test.false) }
+returns c = record { lists_the_up_lots = still_all c.loop-i.invariant.1 (map_end (up_lot c.args.n) c.args.spans.now c.loop-i.i c.loop-i-test.false) }

@@ -3,7 +3,7 @@ use mathlib.Core.Logic.{∥∥₁_map}
 use Rattle.std.proofs.ByRecursion.{All-set}
 use Rattle.markets.specs.declared.candidate.Candidate.{Candidate}
 use Rattle.markets.specs.Candidates.{remaining, entered, own_lots, queue, each_from}
-use Rattle.markets.proofs.Entering.{room, units_added, each-added}
+use Rattle.markets.proofs.Entering.{room, units_added, each_added}
 use Rattle.markets.proofs.candidate.Candidates.add.Goals as goal
 
 pub invariant_of-self : goal.invariant_of-self
@@ -26,7 +26,7 @@ returns g c =
       tells_whether_there_is_room = search rules;
       refused_unit_changes_nothing = λ z. search rules;
       adds_the_unit = units;
-      adds_its_lots = ap₂ (λ table us. each_from (own_lots table) 0 us) put.writes_the_lots units ∙ each-added (λ c xs. xs) s c.args.figures c.args.eligible lots fits.0;
+      adds_its_lots = ap₂ (λ table us. each_from (own_lots table) 0 us) put.writes_the_lots units ∙ each_added (λ c xs. xs) s c.args.figures c.args.eligible lots fits.0;
       adds_its_queue = ap₂ (λ table us. each_from (queue meant table) 0 us) put.writes_the_lots units
-          ∙ each-added (λ c xs. map (remaining meant c.figures) xs) s c.args.figures c.args.eligible lots fits.0;
+          ∙ each_added (λ c xs. map (remaining meant c.figures) xs) s c.args.figures c.args.eligible lots fits.0;
     }

@@ -2,7 +2,7 @@ use Rattle.std.proofs.Common.{◌+◌, ◌≤◌, length, drop, Some, ap, ◌∙
 use Rattle.std.proofs.lemmas.List.{take_rest, length-drop}
 use Rattle.records.specs.Frames.{place_after}
 use Rattle.records.specs.Readers.{frame_figures}
-use Rattle.records.proofs.Cutting.{frame-within, next_there}
+use Rattle.records.proofs.Cutting.{frame_within, next_there}
 use Rattle.records.proofs.reader.Reader.next.Goals as goal
 
 -- the frame ends within the bytes
@@ -11,7 +11,7 @@ within c =
     let at = c.args.self.now.at in
     let src = c.args.self.now.src.now in
     let e = rw take_rest at c.in-Ok.ensures.is_the_frame_in_front in
-    omega (arith, frame-within at (drop at src) (frame_figures c.in-Ok.frame) e, length-drop at src)
+    omega (arith, frame_within at (drop at src) (frame_figures c.in-Ok.frame) e, length-drop at src)
 
 pub overflow_add-self-in-Ok : goal.overflow_add-self-in-Ok
 overflow_add-self-in-Ok c = let h = within c in search rules
