@@ -38,7 +38,7 @@ def antt(text, names):
 
 def source(text, names):
     # a string, a comment, or anything else
-    parts = re.findall(r"\"(?:\\.|[^\"\\])*\"|//[^\n]*|[^\"/]+|/", text)
+    parts = re.findall(r"\"(?:\\[\s\S]|[^\"\\])*\"|//[^\n]*|[^\"/]+|[\"/]", text)
     return "".join(p if p.startswith('"') else quoted(p, names) if p.startswith("//") else plain(p, names) for p in parts)
 
 

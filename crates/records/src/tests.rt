@@ -40,7 +40,7 @@ fn kinds_and_lengths(rt: HostRuntime) -> Result<(), Fail> {
 // A unit is registered once; the second record of it is refused where it begins.
 #[test]
 fn unit_twice(rt: HostRuntime) -> Result<(), Fail> {
-    let twice = b\x14\0\x01\0\x65\0\x01\x01\x78\0\x28\0\x32\0\x0a\0\x28\0\x04\0\x04\0\
+    let twice = b"\x14\0\x01\0\x65\0\x01\x01\x78\0\x28\0\x32\0\x0a\0\x28\0\x04\0\x04\0\
         \x14\0\x01\0\x65\0\x01\x01\x78\0\x28\0\x32\0\x0a\0\x28\0\x04\0\x04\0";
     let once = play(&twice[0..22]);
     assert!(rt; once.fault.is_none());
@@ -56,7 +56,7 @@ fn one_interval(rt: HostRuntime) {
         \x06\0\x02\0\x65\0\x78\0\
         \x06\0\x03\0\x65\0\x50\0\
         \x11\0\x04\0\x65\0\x02\x3c\0\xff\xff\xff\xff\x3c\0\x40\x9c\0\0\
-        \x06\0\x05\0\x30\x75\0\0,
+        \x06\0\x05\0\x30\x75\0\0",
     );
     assert!(rt; played.fault.is_none());
     assert!(rt; played.book.is_closed());

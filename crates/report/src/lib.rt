@@ -1,4 +1,6 @@
 // The listing of rows as text, in a lent buffer.
+#![tactic(auto)]
+
 ghost use Rattle.std.specs.Prelude.{◌≡◌, ◌≤◌, ◌++◌, length, drop, IfOk, if◌then◌else◌, Ok, Err, nat_le};
 ghost use Rattle.units.specs.declared.refusal.Refusal.TheVariants.{ListingTooLong};
 ghost use Rattle.report.specs.Listing.{listing};

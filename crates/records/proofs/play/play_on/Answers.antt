@@ -21,7 +21,7 @@ returns-in-Err c =
     let e = left_fault c.loop-found.invariant.1 (framed c.in-Some.found) found c.offset-offset.result c.offset-offset.ensures.is_the_place (ledger_of c.take_up.new.book) up.is_the_ledger_after_the_record (fault_figures c.in-Err.fault) up.stopped_by_the_first_layer in
     record { book_is_the_ledger_of_the_records = ap (λ (o : Outcome). o.0) e; fault_is_the_first_of_the_records = ap (λ (o : Outcome). o.1) e }
 
-onward : (c : goal.In-default-take_up) → Onward (ledger_of c.args.book.now) c.args.src.now c.loop-found.reader.at c.next.new.self.at (ledger_of c.take_up.new.book)
+onward : (c : goal.In_default-take_up) → Onward (ledger_of c.args.book.now) c.args.src.now c.loop-found.reader.at c.next.new.self.at (ledger_of c.take_up.new.book)
 onward c =
     let next = c.in-Some.ensures in
     let found = rw c.loop-found.invariant.0 at next.gives_the_frame_at_its_place in

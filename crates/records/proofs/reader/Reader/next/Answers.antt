@@ -17,7 +17,7 @@ pub overflow_add-self-in-Ok : goal.overflow_add-self-in-Ok
 overflow_add-self-in-Ok c = let h = within c in search rules
 
 pub invariant_of-self : goal.invariant_of-self
-invariant_of-self c = within c
+invariant_of-self c = record { within = within c }
 
 pub returns-in-Ok : goal.returns-in-Ok
 returns-in-Ok c =

@@ -15,8 +15,8 @@ returns-in_default-2 c = record { is_the_frame_in_front = frame_missing c.args.o
 counted : (c : goal.In-true) → 2 + word_at c.args.rest.now 0 ≤ length c.args.rest.now
 counted c = enough c.args.rest.now c.figure-length.result c.figure-length.ensures.is_the_word (search rules) c.in-true.is
 
-pub returns-in_default-default : goal.returns-in_default-default
-returns-in_default-default c = let h = counted (goal.at.returns-in_default-default c).In-true in record { is_the_frame_in_front = frame_short c.args.offset c.args.rest.now h (search rules) }
+pub returns-in_default-rest : goal.returns-in_default-rest
+returns-in_default-rest c = let h = counted (goal.at.returns-in_default-rest c).In-true in record { is_the_frame_in_front = frame_short c.args.offset c.args.rest.now h (search rules) }
 
 pub returns-in_default-3 : goal.returns-in_default-3
 returns-in_default-3 c = let h = counted (goal.at.returns-in_default-3 c).In-true in record { is_the_frame_in_front = frame_short c.args.offset c.args.rest.now h (search rules) }
