@@ -1,7 +1,7 @@
 -- The units of a book, entered as candidates, are fit to be chosen from, and the choice is the ledger's selection.
 use Rattle.std.proofs.Common.{◌≡◌, ℕ, List, [], ◌∷◌, ◌++◌, map, ◌<ℤ◌, sym, refl, ap, ◌∙◌, subst, ap₂, inl, inr}
 use mathlib.Core.Path.{fun_ext}
-use Rattle.std.specs.List.{flat_map, AllByRecursion as All}
+use Rattle.std.specs.List.{flat_map, AllByRecursion}
 use Rattle.std.proofs.ByRecursion.{All-weaker, All-map}
 use Rattle.std.proofs.lemmas.Bool.{cases_eq, eq-eqb, ne_eqb}
 use Rattle.units.specs.Units.{UnitState}
@@ -49,7 +49,7 @@ module _ {L : Type 0} (meant : L → LotFigures) (m : MarketModel) (l : Ledger) 
   fit : Facts l → Sound meant cs
   fit f = record {
     orderly = subst Orderly (sym waiting_are) (open_lots_are_orderly m.side l f.numbered f.of_closed);
-    rise = subst (All Rising) (sym in'.lots) (All-map Rising (queue_of m.side l.rows) l.units (All-weaker OfClosed (λ u. Rising (queue_of m.side l.rows u)) rises l.units f.of_closed));
+    rise = subst (AllByRecursion Rising) (sym in'.lots) (All-map Rising (queue_of m.side l.rows) l.units (All-weaker OfClosed (λ u. Rising (queue_of m.side l.rows u)) rises l.units f.of_closed));
     numbered = subst Apart (sym in'.units) (pairwise_map (λ a b. a.figures.number ≡ b.figures.number → ⊥) (candidate_of m l.rows) l.units f.numbered);
   }
 

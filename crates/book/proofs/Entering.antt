@@ -1,7 +1,7 @@
 -- The units of a book as the candidates of a selection.
 use Rattle.std.proofs.Common.{◌≡◌, ℕ, ◌+◌, ◌-◌, ◌<◌, ◌≤◌, List, [], ◌∷◌, ◌++◌, map, reverse, length, get_or, take, sym, refl, ap, ◌∙◌, subst, ap₂, arith}
 use mathlib.Core.List.{map-append}
-use Rattle.std.specs.List.{AllByRecursion as All}
+use Rattle.std.specs.List.{AllByRecursion}
 use Rattle.std.proofs.ByRecursion.{All-weaker, All-map, all_kept_by}
 use Rattle.std.proofs.lemmas.List.{take_more, length-take, get_or-map}
 use Rattle.units.specs.declared.pair.Pair.{Pair}
@@ -34,20 +34,20 @@ units_counted cs = simp length-take (omega (arith, cs.within, cs.all_units))
 abbrev Small : LotFigures → Type 0
 Small l = (l.up < 6) × (l.down < 6)
 
-numbers_below : (k i b : ℕ) (ps : List Pair) → i + length ps ≤ k → All (λ s. s.number < k) (stacked i b ps)
+numbers_below : (k i b : ℕ) (ps : List Pair) → i + length ps ≤ k → AllByRecursion (λ s. s.number < k) (stacked i b ps)
 numbers_below k i b [] h = tt
 numbers_below k i b (p ∷ ps) h = (omega arith, numbers_below k (i + 1) (b + p.quantity) ps (omega arith))
 
-small_parts : (side : Side) (n : ℕ) (ss : List Span) → All (λ s. s.number < 6) ss → All Small (parts side n ss)
+small_parts : (side : Side) (n : ℕ) (ss : List Span) → AllByRecursion (λ s. s.number < 6) ss → AllByRecursion Small (parts side n ss)
 small_parts Up n ss h = All-map Small (up_lot n) ss (All-weaker (λ s. s.number < 6) (λ s. Small (up_lot n s)) (λ s k. (k, omega arith)) ss h)
 small_parts Down n ss h =
     All-map Small (down_lot n) (reverse ss) (All-weaker (λ s. s.number < 6) (λ s. Small (down_lot n s)) (λ s k. (omega arith, k)) (reverse ss) (all_reverse (λ s. s.number < 6) ss h))
 small_parts Band n ss h =
     all_joined Small (λ s. map (band_lot n s) (reverse ss)) ss
-    (All-weaker (λ s. s.number < 6) (λ s. All Small (map (band_lot n s) (reverse ss)))
+    (All-weaker (λ s. s.number < 6) (λ s. AllByRecursion Small (map (band_lot n s) (reverse ss)))
     (λ s k. All-map Small (band_lot n s) (reverse ss) (All-weaker (λ t. t.number < 6) (λ t. Small (band_lot n s t)) (λ t j. (k, j)) (reverse ss) (all_reverse (λ t. t.number < 6) ss h))) ss h)
 
-pub small_lots : (side : Side) (u : UnitState) → length u.offer ≤ 5 → All Small (lots side u)
+pub small_lots : (side : Side) (u : UnitState) → length u.offer ≤ 5 → AllByRecursion Small (lots side u)
 small_lots side u h = all_kept_by some Small (parts side u.notification (stack u.offer)) (small_parts side u.notification (stack u.offer) (numbers_below 6 1 0 u.offer (omega arith)))
 
 -- ---- the lots of one unit
@@ -58,12 +58,12 @@ module _ {L : Type 0} (meant : L → LotFigures) (t : StandingTable) (p : ℕ) (
   one_left : (lot : L) → Small (meant lot) → remaining meant u.figures (left_at meant t p lot) ≡ remaining_lot rows u (meant lot)
   one_left lot h = ap (with_standing lot) (s.lots (meant lot).up (meant lot).down h.0 h.1)
 
-  all_left : (ls : List L) → All Small (map meant ls) → map (remaining meant u.figures) (map (left_at meant t p) ls) ≡ map (remaining_lot rows u) (map meant ls)
+  all_left : (ls : List L) → AllByRecursion Small (map meant ls) → map (remaining meant u.figures) (map (left_at meant t p) ls) ≡ map (remaining_lot rows u) (map meant ls)
   all_left [] h = refl
   all_left (l ∷ ls) h = ap₂ ◌∷◌ (one_left l h.0) (all_left ls h.1)
 
   pub lots_left : (side : Side) (ls : List L) → map meant ls ≡ lots side u → length u.offer ≤ 5 → map (remaining meant u.figures) (map (left_at meant t p) ls) ≡ queue_of side rows u
-  lots_left side ls e few = all_left ls (subst (All Small) (sym e) (small_lots side u few)) ∙ ap (map (remaining_lot rows u)) e
+  lots_left side ls e few = all_left ls (subst (AllByRecursion Small) (sym e) (small_lots side u few)) ∙ ap (map (remaining_lot rows u)) e
 
 -- ---- one unit more
 map_more : {X Y : Type 0} (f : X → Y) (xs : List X) (i : ℕ) (d : X) → i < length xs → map f (take (i + 1) xs) ≡ map f (take i xs) ++ (f (get_or xs i d) ∷ [])

@@ -1,6 +1,6 @@
 -- What a book's invariant gives of its tables.
 use Rattle.std.proofs.Common.{◌*◌, ◌≤◌, List, [], ◌∷◌, length, arith}
-use Rattle.std.specs.List.{AllByRecursion as All}
+use Rattle.std.specs.List.{AllByRecursion}
 use Rattle.std.proofs.ByRecursion.{All-weaker}
 use Rattle.lots.specs.Sums.{sum_of}
 use Rattle.ledger.specs.declared.row.Row.{Row}
@@ -15,7 +15,7 @@ invariant b = invariant_of_every_history (ledger_of b) b.reached
 
 -- no row has more than 5,000 megawatts
 abbrev pub SmallRows : List Row → Type 0
-SmallRows rows = All (λ r. r.megawatts ≤ 5000) rows
+SmallRows rows = AllByRecursion (λ r. r.megawatts ≤ 5000) rows
 
 pub small_of : (l : Ledger) → Invariant l → SmallRows l.rows
 small_of l i = All-weaker (SoundRow l.units l.given) (λ r. r.megawatts ≤ 5000) (λ r s. s.few_megawatts) l.rows i.sound_rows

@@ -1,6 +1,6 @@
 -- What a table of standing megawatts says, and what it is to say: the sums over the rows of each unit.
 use Rattle.std.specs.Prelude.{◌≡◌, ℕ, ◌+◌, ◌-◌, ◌^◌, ◌<◌, ◌≤◌, min, cond, ◌&&◌, List, [], ◌∷◌, ◌++◌, map, length, ◌==◌, ◌≢◌, slice_index_or}
-use Rattle.std.specs.List.{AllWithin, AllByRecursion as All}
+use Rattle.std.specs.List.{AllWithin, AllByRecursion}
 use Rattle.units.specs.declared.side.Side.{Side}
 use Rattle.units.specs.declared.side.Side.TheVariants.{Up, Down, Band}
 use Rattle.units.specs.Units.{UnitState}
@@ -63,7 +63,7 @@ LotsWith before r after = (i j : ℕ) → i < 6 → j < 6 → cell after i j ≡
 
 -- ---- places by number
 abbrev pub NoneNumbered : ℕ → List UnitState → Type 0
-NoneNumbered n us = All (λ u. number u ≢ n) us
+NoneNumbered n us = AllByRecursion (λ u. number u ≢ n) us
 
 -- p is the place of the first unit with the number n
 pub record FirstNumbered (n : ℕ) (us : List UnitState) (p : ℕ) : Type 0 where

@@ -1,6 +1,6 @@
 // What the rows of a selection come to.
 ghost use Rattle.std.specs.Prelude.{◌≡◌, ◌≤◌, length, pos, ◌*ℤ◌, neg_ℤ, ◌≤ℤ◌, if◌then◌else◌};
-ghost use Rattle.std.specs.List.{AllByRecursion as All};
+ghost use Rattle.std.specs.List.{AllByRecursion};
 ghost use Rattle.ledger.specs.Selecting.{megawatts_of, cost_of};
 ghost use Rattle.ledger.specs.Settling.{open_rows, some_rows, is_held};
 ghost use Rattle.book.specs.Adding.{is_open_row};
@@ -64,7 +64,7 @@ fn part_of(row: &Row, selection: u16) -> OpenSums
 // Adds up the open rows of the selection with this number.
 pub(crate) fn open_sums(rows: &[Row], selection: u16) -> OpenSums
     requires few { length rows.now ≤ 512 }
-    requires small { All (λ r. r.megawatts ≤ 5000) rows.now }
+    requires small { AllByRecursion (λ r. r.megawatts ≤ 5000) rows.now }
     ensures tells_whether_there_are_some { result.some ≡ some_rows (open_rows selection rows.now) }
     ensures adds_the_megawatts { result.megawatts ≡ megawatts_of (open_rows selection rows.now) }
     ensures adds_the_cost { result.cost ≡ cost_of (open_rows selection rows.now) }
@@ -88,7 +88,7 @@ pub(crate) fn open_sums(rows: &[Row], selection: u16) -> OpenSums
 // Whether an open selection has these figures.
 pub(crate) fn is_held(rows: &[Row], slip: &SlipFigures) -> bool
     requires few { length rows.now ≤ 512 }
-    requires small { All (λ r. r.megawatts ≤ 5000) rows.now }
+    requires small { AllByRecursion (λ r. r.megawatts ≤ 5000) rows.now }
     ensures tells_whether_it_is_held { result ≡ is_held slip.now rows.now }
 {
     let sums = open_sums(rows, slip.number);

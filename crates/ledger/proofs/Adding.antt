@@ -1,7 +1,7 @@
 -- The invariant after a selection.
 use Rattle.std.proofs.Common.{◌≡◌, ℕ, ◌+◌, ◌-◌, ◌<◌, ◌≤◌, Bool, true, false, cond, not, ◌&&◌, ◌||◌, eqb, List, [], ◌∷◌, ◌++◌, map, length, ℤ, sym, refl, ap, ◌∙◌, subst, inl, inr, arith}
 use borrow.Author.Differences.{ints}
-use Rattle.std.specs.List.{flat_map, AllByRecursion as All}
+use Rattle.std.specs.List.{flat_map, AllByRecursion}
 use Rattle.std.proofs.lemmas.List.Elements.{filter-append}
 use Rattle.std.proofs.ByRecursion.{All-weaker, All-map, All-append, all_kept_by}
 use Rattle.std.proofs.lemmas.List.{length-append}
@@ -33,16 +33,16 @@ use Rattle.ledger.proofs.Knowing.{all_members, all_known, facts}
 use Rattle.ledger.proofs.Holding.{sum_own}
 
 -- ---- lists
-all_parts : {X : Type 0} (P : X → Type 0) (xs ys : List X) → All P (xs ++ ys) → All P xs × All P ys
+all_parts : {X : Type 0} (P : X → Type 0) (xs ys : List X) → AllByRecursion P (xs ++ ys) → AllByRecursion P xs × AllByRecursion P ys
 all_parts P [] ys h = (tt, h)
 all_parts P (x ∷ xs) ys h = let k = all_parts P xs ys h.1 in ((h.0, k.0), k.1)
 
-all_mapped : {X Y : Type 0} (P : Y → Type 0) (f : X → Y) (xs : List X) → All P (map f xs) → All (λ x. P (f x)) xs
+all_mapped : {X Y : Type 0} (P : Y → Type 0) (f : X → Y) (xs : List X) → AllByRecursion P (map f xs) → AllByRecursion (λ x. P (f x)) xs
 all_mapped P f [] h = tt
 all_mapped P f (x ∷ xs) h = (h.0, all_mapped P f xs h.1)
 
 -- what holds of all elements that are joined holds of each list's
-all_of_joined : {X Y : Type 0} (P : Y → Type 0) (g : X → List Y) (xs : List X) → All P (flat_map g xs) → All (λ x. All P (g x)) xs
+all_of_joined : {X Y : Type 0} (P : Y → Type 0) (g : X → List Y) (xs : List X) → AllByRecursion P (flat_map g xs) → AllByRecursion (λ x. AllByRecursion P (g x)) xs
 all_of_joined P g [] h = tt
 all_of_joined P g (x ∷ xs) h = let k = all_parts P (g x) (flat_map g xs) h in (k.0, all_of_joined P g xs k.1)
 
@@ -51,7 +51,7 @@ one_of_sum g x [] i = absurd i
 one_of_sum g x (y ∷ ys) (inl e) = omega (arith, ap g e)
 one_of_sum g x (y ∷ ys) (inr i) = omega (arith, one_of_sum g x ys i)
 
-sum_of_none : {X : Type 0} (g : X → ℕ) (xs : List X) → All (λ x. g x ≡ 0) xs → sum_of g xs ≡ 0
+sum_of_none : {X : Type 0} (g : X → ℕ) (xs : List X) → AllByRecursion (λ x. g x ≡ 0) xs → sum_of g xs ≡ 0
 sum_of_none g [] h = refl
 sum_of_none g (x ∷ xs) h = omega (arith, h.0, sum_of_none g xs h.1)
 
@@ -69,16 +69,16 @@ row_stands r rows i =
 
 -- ---- the lots of a side with their remainders, by units
 module _ (side : Side) (l : Ledger) (P : Remaining → Type 0) where
-  every_lot : ((u : UnitState) → In u l.units → (k : LotFigures) → In k (lots side u) → P (remaining_lot l.rows u k)) → All P (open_lots side l)
+  every_lot : ((u : UnitState) → In u l.units → (k : LotFigures) → In k (lots side u) → P (remaining_lot l.rows u k)) → AllByRecursion P (open_lots side l)
   every_lot f =
       all_joined P (λ u. map (remaining_lot l.rows u) (lots side u)) l.units
-      (all_members (λ u. All P (map (remaining_lot l.rows u) (lots side u))) l.units
+      (all_members (λ u. AllByRecursion P (map (remaining_lot l.rows u) (lots side u))) l.units
       (λ u i. All-map P (remaining_lot l.rows u) (lots side u) (all_members (λ k. P (remaining_lot l.rows u k)) (lots side u) (f u i))))
 
-  lots_of_unit : All P (open_lots side l) → (u : UnitState) → In u l.units → All (λ k. P (remaining_lot l.rows u k)) (lots side u)
+  lots_of_unit : AllByRecursion P (open_lots side l) → (u : UnitState) → In u l.units → AllByRecursion (λ k. P (remaining_lot l.rows u k)) (lots side u)
   lots_of_unit h u i =
       let g = λ (w : UnitState). map (remaining_lot l.rows w) (lots side w) in
-      all_mapped P (remaining_lot l.rows u) (lots side u) (in_all (λ w. All P (g w)) u l.units i (all_of_joined P g l.units h))
+      all_mapped P (remaining_lot l.rows u) (lots side u) (in_all (λ w. AllByRecursion P (g w)) u l.units i (all_of_joined P g l.units h))
 
 -- what a unit's lots have of a sum over all lots of its number
 own_part : (side : Side) (l : Ledger) (g : Remaining → ℕ) (u : UnitState) → In u l.units →
@@ -114,7 +114,7 @@ of_unit_by side r u e h =
     let t : Side → Bool = λ s. is_of_lots r (lots s u) in
     and_from (eqb r.unit (number u)) (t Up || t Down || t Band) (eq-eqb r.unit (number u) e) (some_side t side h)
 
-row_is_known : (side : Side) (l : Ledger) → All (λ lot. (r : Row) → RowOf r lot → is_known l.units r ≡ true) (open_lots side l)
+row_is_known : (side : Side) (l : Ledger) → AllByRecursion (λ lot. (r : Row) → RowOf r lot → is_known l.units r ≡ true) (open_lots side l)
 row_is_known side l =
     every_lot side l (λ lot. (r : Row) → RowOf r lot → is_known l.units r ≡ true)
     (λ u i k j r o.
@@ -129,7 +129,7 @@ offered_le Down i n h = h
 offered_le Band i n h = omega arith
 
 -- no lot has more than 5000 megawatts left
-few_left : (side : Side) (l : Ledger) → All OfClosed l.units → All (λ lot. lot.rest ≤ 5000) (open_lots side l)
+few_left : (side : Side) (l : Ledger) → AllByRecursion OfClosed l.units → AllByRecursion (λ lot. lot.rest ≤ 5000) (open_lots side l)
 few_left side l closed =
     every_lot side l (λ lot. lot.rest ≤ 5000)
     (λ u i k j.
@@ -162,7 +162,7 @@ keys_apart Band Up h i j a b = omega (arith, a.1, b.1)
 keys_apart Band Down h i j a b = omega (arith, a.0, b.0)
 keys_apart Band Band h i j a b = true≢false h
 
-keys_open : (side : Side) (l : Ledger) → All (λ lot. OfSide side lot.up lot.down) (open_lots side l)
+keys_open : (side : Side) (l : Ledger) → AllByRecursion (λ lot. OfSide side lot.up lot.down) (open_lots side l)
 keys_open side l = every_lot side l (λ lot. OfSide side lot.up lot.down) (λ u i k j. in_all (KeyOf side) k (lots side u) j (keys_of side u))
 
 -- more of one side
@@ -173,7 +173,7 @@ more_of Down a b c e z = same_standing (c Up) (c Down) (c Band) _ _ _ (omega (ar
 more_of Band a b c e z = same_standing (c Up) (c Down) (c Band) _ _ _ (omega (arith, e Up, z Up refl)) (omega (arith, e Down, z Down refl)) (e Band)
 
 -- ---- where no up or down row stands
-all_band : (rows : List Row) → energy_stands rows ≡ false → All (λ r. of_side Band r ≡ true) rows
+all_band : (rows : List Row) → energy_stands rows ≡ false → AllByRecursion (λ r. of_side Band r ≡ true) rows
 all_band [] h = tt
 all_band (r ∷ rows) h = let k = or_parts (not (of_side Band r)) (energy_stands rows) h in (not-false (of_side Band r) k.0, all_band rows k.1)
 
@@ -190,8 +190,8 @@ asked Band rows n h =
 
 -- ---- the new rows
 module _ (l : Ledger) (v : Invariant l) (closed : l.closed ≡ true) (m : MarketModel) (clear : (is_band m.side && energy_stands l.rows) ≡ false) (n : ℕ) (new : List Row)
-    (chosen : PermittedChoice m l (lot_stands new)) (fresh : All (NewRow (open_lots m.side l) (l.given + 1) n) new) where
-  sound_new : All (SoundRow l.units (l.given + 1)) new
+    (chosen : PermittedChoice m l (lot_stands new)) (fresh : AllByRecursion (NewRow (open_lots m.side l) (l.given + 1) n) new) where
+  sound_new : AllByRecursion (SoundRow l.units (l.given + 1)) new
   sound_new =
       all_members (SoundRow l.units (l.given + 1)) new
       (λ r i.
@@ -210,7 +210,7 @@ module _ (l : Ledger) (v : Invariant l) (closed : l.closed ≡ true) (m : Market
       })
 
   -- their keys are of the market's side
-  keys_new : All (λ r. OfSide m.side r.up r.down) new
+  keys_new : AllByRecursion (λ r. OfSide m.side r.up r.down) new
   keys_new =
       All-weaker (NewRow (open_lots m.side l) (l.given + 1) n) (λ r. OfSide m.side r.up r.down)
       (λ r w.
@@ -218,7 +218,7 @@ module _ (l : Ledger) (v : Invariant l) (closed : l.closed ≡ true) (m : Market
       subst (λ x. OfSide m.side x r.down) (sym w.of_the_lot.its_up) (subst (λ x. OfSide m.side w.lot.up x) (sym w.of_the_lot.its_down) key)) new fresh
 
   -- so nothing of them stands of a lot of another side
-  none_other : (s : Side) → same_side s m.side ≡ false → (u : UnitState) → All (λ k. stands_of (lot_stands new (number u)) k ≡ 0) (lots s u)
+  none_other : (s : Side) → same_side s m.side ≡ false → (u : UnitState) → AllByRecursion (λ k. stands_of (lot_stands new (number u)) k ≡ 0) (lots s u)
   none_other s e u =
       All-weaker (KeyOf s) (λ k. stands_of (lot_stands new (number u)) k ≡ 0)
       (λ k key. sum_of_none (at_key k.up k.down) (own_rows (number u) new)
@@ -232,12 +232,12 @@ module _ (l : Ledger) (v : Invariant l) (closed : l.closed ≡ true) (m : Market
       let st = lot_stands l.rows (number u) in
       let more = lot_stands new (number u) in
       let old = in_all (Fits l.rows) u l.units i v.lots_fit in
-      let by : (t : Side) → All (λ k. stands_of more k ≤ k.size - stands_of st k) (lots t u) → All (λ k. stands_of (lot_stands (l.rows ++ new) (number u)) k ≤ k.size) (lots t u) = λ t a.
+      let by : (t : Side) → AllByRecursion (λ k. stands_of more k ≤ k.size - stands_of st k) (lots t u) → AllByRecursion (λ k. stands_of (lot_stands (l.rows ++ new) (number u)) k ≤ k.size) (lots t u) = λ t a.
       All-weaker (λ k. (stands_of more k ≤ k.size - stands_of st k) × (stands_of st k ≤ k.size)) (λ k. stands_of (lot_stands (l.rows ++ new) (number u)) k ≤ k.size)
       (λ k b. omega (arith, b.0, b.1, sum_added (at_key k.up k.down) (number u) l.rows new)) (lots t u)
       (all_zip (λ k. stands_of more k ≤ k.size - stands_of st k) (λ k. stands_of st k ≤ k.size) (lots t u) a (old t)) in
       elim (cases_Bool (same_side s m.side)) [
-        | inl e ↦ subst (λ t. All (λ k. stands_of (lot_stands (l.rows ++ new) (number u)) k ≤ k.size) (lots t u)) (sym (sides_same s m.side e))
+        | inl e ↦ subst (λ t. AllByRecursion (λ k. stands_of (lot_stands (l.rows ++ new) (number u)) k ≤ k.size) (lots t u)) (sym (sides_same s m.side e))
             (by m.side (lots_of_unit m.side l (λ lot. taken_by (lot_stands new) lot ≤ lot.rest) chosen.within_remainders u i))
         | inr e ↦ by s (All-weaker (λ k. stands_of more k ≡ 0) (λ k. stands_of more k ≤ k.size - stands_of st k) (λ k z. omega arith) (lots s u) (none_other s e u))
       ]
@@ -268,7 +268,7 @@ module _ (l : Ledger) (v : Invariant l) (closed : l.closed ≡ true) (m : Market
       subst (Between u) (sym (standing_added u i ∙ ap (with_more m.side more) e)) b
 
 pub invariant_selected : (l : Ledger) → Invariant l → l.closed ≡ true → (m : MarketModel) → (is_band m.side && energy_stands l.rows) ≡ false → (n : ℕ) (new : List Row) →
-    PermittedChoice m l (lot_stands new) → All (NewRow (open_lots m.side l) (l.given + 1) n) new → Pairwise OtherLot new → length l.rows + length new ≤ 512 → l.given < 65535 →
+    PermittedChoice m l (lot_stands new) → AllByRecursion (NewRow (open_lots m.side l) (l.given + 1) n) new → Pairwise OtherLot new → length l.rows + length new ≤ 512 → l.given < 65535 →
     Invariant (with_selection new l)
 invariant_selected l v closed m clear n new chosen fresh apart room given = record {
   few_units = v.few_units;

@@ -2,7 +2,7 @@
 use Rattle.std.proofs.Common.{◌≡◌, ℕ, suc, ◌+◌, ◌<◌, ◌≤◌, Bool, true, false, cond, not, ◌&&◌, eqb, List, [], ◌∷◌, ◌++◌, length, ℤ, filter, sym, refl, ap, ◌∙◌, subst, inl, inr, arith}
 use borrow.Author.Differences.{ints}
 use lib.Signed.{le_z}
-use Rattle.std.specs.List.{remove, AllByRecursion as All}
+use Rattle.std.specs.List.{remove, AllByRecursion}
 use Rattle.std.proofs.lemmas.List.Elements.{filter-append}
 use Rattle.std.proofs.ByRecursion.{All-append, All-weaker, All-map, all_kept_by, kept_by_passes}
 use Rattle.std.proofs.lemmas.List.{append-nil}
@@ -75,11 +75,11 @@ held_from n rows new e l =
     ap (held_by (slip_of n new)) e ∙ and_from _ _ (and_from _ _ (long_some new l) (eq-eqb (megawatts_of new) (megawatts_of new) refl)) (same_cost_own (cost_of new))
 
 -- ---- filters
-kept_by_none : {X : Type 0} (p : X → Bool) (xs : List X) → All (λ x. p x ≡ false) xs → filter p xs ≡ []
+kept_by_none : {X : Type 0} (p : X → Bool) (xs : List X) → AllByRecursion (λ x. p x ≡ false) xs → filter p xs ≡ []
 kept_by_none p [] h = refl
 kept_by_none p (x ∷ xs) h = cond-false (p x) _ _ h.0 ∙ kept_by_none p xs h.1
 
-kept_by_every : {X : Type 0} (p : X → Bool) (xs : List X) → All (λ x. p x ≡ true) xs → filter p xs ≡ xs
+kept_by_every : {X : Type 0} (p : X → Bool) (xs : List X) → AllByRecursion (λ x. p x ≡ true) xs → filter p xs ≡ xs
 kept_by_every p [] h = refl
 kept_by_every p (x ∷ xs) h = cond-true (p x) _ _ h.0 ∙ ap (λ ys. x ∷ ys) (kept_by_every p xs h.1)
 
@@ -100,11 +100,11 @@ not_open_of : (n : ℕ) (r : Row) → (r.selection ≡ n → ⊥) → is_open_of
 not_open_of n r ne = and_right _ _ (ne_eqb _ _ ne)
 
 -- no row has the number
-open_none : (n : ℕ) (rows : List Row) → All (λ r. r.selection ≡ n → ⊥) rows → open_rows n rows ≡ []
+open_none : (n : ℕ) (rows : List Row) → AllByRecursion (λ r. r.selection ≡ n → ⊥) rows → open_rows n rows ≡ []
 open_none n rows h = kept_by_none (is_open_of n) rows (All-weaker (λ r. r.selection ≡ n → ⊥) (λ r. is_open_of n r ≡ false) (not_open_of n) rows h)
 
 -- every row has the number, and is open
-open_every : (n : ℕ) (rows : List Row) → All (λ r. r.selection ≡ n) rows → All (λ r. r.state ≡ Open) rows → open_rows n rows ≡ rows
+open_every : (n : ℕ) (rows : List Row) → AllByRecursion (λ r. r.selection ≡ n) rows → AllByRecursion (λ r. r.state ≡ Open) rows → open_rows n rows ≡ rows
 open_every n rows h k =
     kept_by_every (is_open_of n) rows
     (All-weaker (λ r. (r.selection ≡ n) × (r.state ≡ Open)) (λ r. is_open_of n r ≡ true) (λ r p. and_from _ _ (ap is_open p.1) (eq-eqb _ _ p.0)) rows
@@ -130,9 +130,9 @@ open_confirmed n k (r ∷ rows) = on (eqb r.selection n) (with_confirmed n rows)
 
 -- ---- the slips but for one
 module _ (s : SlipFigures) where
-  all_spent : (P : SlipFigures → Type 0) (ss : List SlipFigures) → All P ss → All P (spent s ss)
+  all_spent : (P : SlipFigures → Type 0) (ss : List SlipFigures) → AllByRecursion P ss → AllByRecursion P (spent s ss)
   all_spent P [] h = tt
-  all_spent P (x ∷ xs) h = cond_both (same_figures s x) xs (x ∷ spent s xs) (All P) (λ e. h.1) (λ e. (h.0, all_spent P xs h.1))
+  all_spent P (x ∷ xs) h = cond_both (same_figures s x) xs (x ∷ spent s xs) (AllByRecursion P) (λ e. h.1) (λ e. (h.0, all_spent P xs h.1))
 
   pairwise_spent : (R : SlipFigures → SlipFigures → Type 0) (ss : List SlipFigures) → Pairwise R ss → Pairwise R (spent s ss)
   pairwise_spent R [] h = tt
@@ -147,14 +147,14 @@ module _ (s : SlipFigures) where
   in_spent x (y ∷ ys) ne (inr i) = cond_both (same_figures s y) ys (y ∷ spent s ys) (In x) (λ e. i) (λ e. inr (in_spent x ys ne i))
 
   -- and no slip that stays has the number of a slip that was there
-  spent_others : (ss : List SlipFigures) → Pairwise Apart ss → In s ss → All (λ x. Apart x s) (spent s ss)
+  spent_others : (ss : List SlipFigures) → Pairwise Apart ss → In s ss → AllByRecursion (λ x. Apart x s) (spent s ss)
   spent_others [] h i = absurd i
   spent_others (x ∷ xs) h i =
-      cond_both (same_figures s x) xs (x ∷ spent s xs) (All (λ y. Apart y s))
+      cond_both (same_figures s x) xs (x ∷ spent s xs) (AllByRecursion (λ y. Apart y s))
       (λ e. All-weaker (Apart x) (λ y. Apart y s) (λ y ne q. ne (ap (λ z. z.number) (same_figures_is s x e) ∙ sym q)) xs h.0)
       (λ e. on e i (spent_others xs h.1))
     where
-      on : same_figures s x ≡ false → In s (x ∷ xs) → (In s xs → All (λ y. Apart y s) (spent s xs)) → All (λ y. Apart y s) (x ∷ spent s xs)
+      on : same_figures s x ≡ false → In s (x ∷ xs) → (In s xs → AllByRecursion (λ y. Apart y s) (spent s xs)) → AllByRecursion (λ y. Apart y s) (x ∷ spent s xs)
       on e (inl q) ih = absurd (other_figures s x e q)
       on e (inr m) ih = (in_all (Apart x) s xs m h.0, ih m)
 
@@ -194,7 +194,7 @@ module _ (s : SlipFigures) where
 
   -- rows of which none is open under the number of s, and else the same are open
   hand_spent : (ss : List SlipFigures) (rows rows' : List Row) (g : ℕ) → is_held s rows ≡ true → open_rows s.number rows' ≡ [] → ((k : ℕ) → (s.number ≡ k → ⊥) → open_rows k rows' ≡ open_rows k rows) →
-      All (λ r. r.selection ≤ g) rows' → Hand ss rows g → Hand (spent s ss) rows' g
+      AllByRecursion (λ r. r.selection ≤ g) rows' → Hand ss rows g → Hand (spent s ss) rows' g
   hand_spent ss rows rows' g held own rest past h =
       record {
         open_still = All-weaker (λ x. (is_held x rows ≡ true) × Apart x s) (λ x. is_held x rows' ≡ true) (λ x p. held_alike x rows rows' (rest x.number (λ e. p.1 (sym e))) p.0) (spent s ss)
@@ -222,29 +222,29 @@ hand_confirmed s ss rows g held h =
 
 -- ---- one more slip
 -- no row is open under a number that was not given
-open_above : (n : ℕ) (rows : List Row) (g : ℕ) → All (λ r. r.selection ≤ g) rows → g < n → open_rows n rows ≡ []
+open_above : (n : ℕ) (rows : List Row) (g : ℕ) → AllByRecursion (λ r. r.selection ≤ g) rows → g < n → open_rows n rows ≡ []
 open_above n rows g past l = open_none n rows (All-weaker (λ r. r.selection ≤ g) (λ r. r.selection ≡ n → ⊥) (λ r k e. omega arith) rows past)
 
-held_past : (s : SlipFigures) (rows : List Row) (g : ℕ) → All (λ r. r.selection ≤ g) rows → is_held s rows ≡ true → s.number ≤ g
+held_past : (s : SlipFigures) (rows : List Row) (g : ℕ) → AllByRecursion (λ r. r.selection ≤ g) rows → is_held s rows ≡ true → s.number ≤ g
 held_past s rows g past h = elim (cases_lt g s.number) [
   | inl l ↦ absurd (omega (arith, held_long s rows h, ap length (open_above s.number rows g past l)))
   | inr l ↦ l
 ]
 
 -- the open rows of the number of new rows are these
-open_selected_own : (rows new : List Row) (g : ℕ) → All (λ r. r.selection ≤ g) rows → All (λ r. r.selection ≡ g + 1) new → All (λ r. r.state ≡ Open) new → open_rows (g + 1) (rows ++ new) ≡ new
+open_selected_own : (rows new : List Row) (g : ℕ) → AllByRecursion (λ r. r.selection ≤ g) rows → AllByRecursion (λ r. r.selection ≡ g + 1) new → AllByRecursion (λ r. r.state ≡ Open) new → open_rows (g + 1) (rows ++ new) ≡ new
 open_selected_own rows new g past numbered opened =
     filter-append (is_open_of (g + 1)) rows new ∙ ap (λ xs. xs ++ open_rows (g + 1) new) (open_above (g + 1) rows g past (omega arith)) ∙ open_every (g + 1) new numbered opened
 
 -- and those of any other number are as they were
-open_selected_other : (n : ℕ) (rows new : List Row) → All (λ r. r.selection ≡ n) new → (k : ℕ) → (n ≡ k → ⊥) → open_rows k (rows ++ new) ≡ open_rows k rows
+open_selected_other : (n : ℕ) (rows new : List Row) → AllByRecursion (λ r. r.selection ≡ n) new → (k : ℕ) → (n ≡ k → ⊥) → open_rows k (rows ++ new) ≡ open_rows k rows
 open_selected_other n rows new numbered k ne =
     filter-append (is_open_of k) rows new
     ∙ ap (λ xs. open_rows k rows ++ xs) (open_none k new (All-weaker (λ r. r.selection ≡ n) (λ r. r.selection ≡ k → ⊥) (λ r e f. ne (sym e ∙ f)) new numbered))
     ∙ append-nil (open_rows k rows)
 
 -- a selection adds its slip at the end
-pub hand_selected : (ss : List SlipFigures) (rows new : List Row) (g : ℕ) → Hand ss rows g → All (λ r. r.selection ≡ g + 1) new → All (λ r. r.state ≡ Open) new → 1 ≤ length new →
+pub hand_selected : (ss : List SlipFigures) (rows new : List Row) (g : ℕ) → Hand ss rows g → AllByRecursion (λ r. r.selection ≡ g + 1) new → AllByRecursion (λ r. r.state ≡ Open) new → 1 ≤ length new →
     Hand (ss ++ slip_of (g + 1) new ∷ []) (rows ++ new) (g + 1)
 hand_selected ss rows new g h numbered opened some =
     let n = g + 1 in
@@ -261,7 +261,7 @@ hand_selected ss rows new g h numbered opened some =
         | inl e ↦ in_right x ss (s ∷ []) (inl (sym (held_is x (rows ++ new) k) ∙ ap (λ m. slip_of m (open_rows m (rows ++ new))) (sym e) ∙ ap (slip_of n) own))
         | inr ne ↦ in_left x ss (s ∷ []) (h.every x (held_alike x (rows ++ new) rows (sym (rest x.number ne)) k))
       ];
-      sole = pairwise_append Apart ss (s ∷ []) h.sole (tt, tt) (All-weaker Held (λ x. All (Apart x) (s ∷ [])) (λ x k. (λ e. old x k (sym e), tt)) ss h.open_still);
+      sole = pairwise_append Apart ss (s ∷ []) h.sole (tt, tt) (All-weaker Held (λ x. AllByRecursion (Apart x) (s ∷ [])) (λ x k. (λ e. old x k (sym e), tt)) ss h.open_still);
       past = All-append Past rows new (All-weaker (λ r. r.selection ≤ g) Past (λ r l. omega arith) rows h.past) (All-weaker (λ r. r.selection ≡ n) Past (λ r e. omega arith) new numbered);
     }
 
@@ -288,7 +288,7 @@ open_and_others n (r ∷ rows) = on (is_open r.state) (eqb r.selection n) (open_
     on false false xs ys h = omega arith
 
 -- slips of different numbers, each with an open row
-few : (ss : List SlipFigures) (rows : List Row) → Pairwise Apart ss → All (λ s. 1 ≤ length (open_rows s.number rows)) ss → length ss ≤ length rows
+few : (ss : List SlipFigures) (rows : List Row) → Pairwise Apart ss → AllByRecursion (λ s. 1 ≤ length (open_rows s.number rows)) ss → length ss ≤ length rows
 few [] rows a h = omega arith
 few (s ∷ ss) rows a h =
     let n = s.number in

@@ -1,6 +1,6 @@
 -- The invariant of an empty ledger, and after every call but selecting.
 use Rattle.std.proofs.Common.{◌≡◌, ℕ, ◌+◌, ◌≤◌, Bool, true, false, cond, not, ◌&&◌, ◌||◌, eqb, leb, List, [], ◌∷◌, ◌++◌, map, length, ℤ, is_some, Some, None, filter, Option, sym, refl, ap, ◌∙◌, subst, inl, inr, arith}
-use Rattle.std.specs.List.{AllByRecursion as All}
+use Rattle.std.specs.List.{AllByRecursion}
 use Rattle.std.proofs.ByRecursion.{All-weaker, All-map, All-push, all_kept_by}
 use Rattle.std.proofs.lemmas.List.{length-append, length-map}
 use Rattle.std.proofs.lemmas.Bool.{true≢false, false≢true, both_ways, not-false, leb-true, leb-false, eqb-true, eqb-false, and_parts, and_from, or_parts, or_cases, or_left, or_right, cond_both, cond-false}
@@ -46,7 +46,7 @@ invariant_empty = record {
 -- ---- the table of refusals
 -- no line of a table applies
 abbrev pub Passes : List Line → Type 0
-Passes ls = All (λ k. k.applies ≡ false) ls
+Passes ls = AllByRecursion (λ k. k.applies ≡ false) ls
 
 -- what holds before a call, and after it where no line applies, holds at its end
 pub by_the_table : (P : Ledger → Type 0) (ls : List Line) (before : Ledger) (after : Ledger × Answer) → P before → (Passes ls → P after.0) → P (by_table ls before after).0
@@ -74,10 +74,10 @@ idle_between u rows h k = rw (none_own (number u) rows h) (record {
 })
 
 -- ---- one unit changed
-all_changed : (P : UnitState → Type 0) (n : ℕ) (f : UnitState → UnitState) (us : List UnitState) → ((u : UnitState) → In u us → number u ≡ n → P (f u)) → All P us → All P (changed n f us)
+all_changed : (P : UnitState → Type 0) (n : ℕ) (f : UnitState → UnitState) (us : List UnitState) → ((u : UnitState) → In u us → number u ≡ n → P (f u)) → AllByRecursion P us → AllByRecursion P (changed n f us)
 all_changed P n f [] a h = tt
 all_changed P n f (u ∷ us) a h =
-    cond_both (eqb (number u) n) (f u ∷ us) (u ∷ changed n f us) (All P)
+    cond_both (eqb (number u) n) (f u ∷ us) (u ∷ changed n f us) (AllByRecursion P)
     (λ e. (a u (inl refl) (eqb-true (number u) n e), h.1))
     (λ e. (h.0, all_changed P n f us (λ v i. a v (inr i)) h.1))
 
@@ -109,7 +109,7 @@ known_changed n f r other (u ∷ us) h =
       | inr k ↦ or_right (is_of_unit r u) (is_known (changed n f us) r) (known_changed n f r other us k)
     ])
 
-others : (n : ℕ) (rows : List Row) → has_rows n rows ≡ false → All (λ r. r.unit ≡ n → ⊥) rows
+others : (n : ℕ) (rows : List Row) → has_rows n rows ≡ false → AllByRecursion (λ r. r.unit ≡ n → ⊥) rows
 others n [] h = tt
 others n (r ∷ rows) h = let k = or_parts (eqb r.unit n) (has_rows n rows) h in (eqb-false r.unit n k.0, others n rows k.1)
 
@@ -273,7 +273,7 @@ sound_confirmed us given k r s =
     (λ e. record { known = known_confirmed us r ∙ s.known; some_megawatts = s.some_megawatts; few_megawatts = s.few_megawatts; numbered = s.numbered })
     (λ e. s)
 
-not_named : (n : ℕ) (us : List UnitState) → is_some (unit_named n us) ≡ false → All (λ u. number u ≡ n → ⊥) us
+not_named : (n : ℕ) (us : List UnitState) → is_some (unit_named n us) ≡ false → AllByRecursion (λ u. number u ≡ n → ⊥) us
 not_named n us h = elim (cases_named n us) [
   | inl (u, k) ↦ absurd (false≢true (sym h ∙ ap is_some k.named))
   | inr none ↦ none
@@ -296,15 +296,15 @@ module _ (l : Ledger) (v : Invariant l) where
   idle : l.closed ≡ false → (n : ℕ) → has_rows n l.rows ≡ false
   idle c n = no_rows n l.rows (v.no_rows_before_closing c)
 
-  idle_sound : (us : List UnitState) (given : ℕ) → l.closed ≡ false → All (SoundRow us given) l.rows
+  idle_sound : (us : List UnitState) (given : ℕ) → l.closed ≡ false → AllByRecursion (SoundRow us given) l.rows
   idle_sound us given c = none l.rows (v.no_rows_before_closing c)
     where
-      none : (rows : List Row) → length rows ≡ 0 → All (SoundRow us given) rows
+      none : (rows : List Row) → length rows ≡ 0 → AllByRecursion (SoundRow us given) rows
       none [] h = tt
       none (r ∷ rows) h = absurd (omega arith)
 
   -- units of a ledger without rows
-  invariant_idle : (c : Bool) (us : List UnitState) → l.closed ≡ false → length us ≤ 32 → Numbered us → All Kept us → (c ≡ true → All (λ u. 1 ≤ length u.offer) us) →
+  invariant_idle : (c : Bool) (us : List UnitState) → l.closed ≡ false → length us ≤ 32 → Numbered us → AllByRecursion Kept us → (c ≡ true → AllByRecursion (λ u. 1 ≤ length u.offer) us) →
       Invariant (record { closed = c; units = us; rows = l.rows; given = l.given })
   invariant_idle c us early few ns kept offered = record {
     few_units = few;
@@ -326,7 +326,7 @@ module _ (l : Ledger) (v : Invariant l) where
       invariant_idle l.closed (us ++ (u ∷ [])) p.1.0
       (omega (arith, length-append us (u ∷ []), leb-false 32 (length us) p.1.1.1.0))
       (pairwise_append (λ a b. number a ≡ number b → ⊥) us (u ∷ []) v.numbered (tt, tt)
-      (All-weaker (λ w. number w ≡ r.number → ⊥) (λ w. All (λ b. number w ≡ number b → ⊥) (u ∷ [])) (λ w k. (k, tt)) us (not_named r.number us p.1.1.0)))
+      (All-weaker (λ w. number w ≡ r.number → ⊥) (λ w. AllByRecursion (λ b. number w ≡ number b → ⊥) (u ∷ [])) (λ w k. (k, tt)) us (not_named r.number us p.1.1.0)))
       (All-push Kept us u v.kept (kept_new r (not-false (in_range r) p.0) (not-false (agrees r) p.1.1.1.1.0)))
       (λ c. absurd (both_ways l.closed p.1.0 c))
 
@@ -340,7 +340,7 @@ module _ (l : Ledger) (v : Invariant l) where
       (λ d. All-map (λ u. 1 ≤ length u.offer) (closed_at c) us (All-weaker Kept (λ u. 1 ≤ length (closed_at c u).offer) (λ u k. (kept_closed c h u k).1) us v.kept))
 
   -- rows of which no more stands than before
-  invariant_less : (rows : List Row) → length rows ≤ length l.rows → All (SoundRow l.units l.given) rows →
+  invariant_less : (rows : List Row) → length rows ≤ length l.rows → AllByRecursion (SoundRow l.units l.given) rows →
       ((n i j : ℕ) → lot_stands rows n i j ≤ lot_stands l.rows n i j) → ((side : Side) (n : ℕ) → side_stands side rows n ≤ side_stands side l.rows n) → Invariant (with_rows rows l)
   invariant_less rows fewer sound lots-less sides-less = record {
     few_units = v.few_units;

@@ -1,6 +1,6 @@
 -- What the invariant says of a closed ledger: all that a selection may count on.
 use Rattle.std.proofs.Common.{◌≡◌, ◌≤◌, true, ◌&&◌, ◌||◌, eqb, List, [], ◌∷◌, length, sym, refl, ◌∙◌, subst, inl, inr}
-use Rattle.std.specs.List.{AllByRecursion as All}
+use Rattle.std.specs.List.{AllByRecursion}
 use Rattle.std.proofs.ByRecursion.{All-weaker, all_kept_by, kept_by_passes}
 use Rattle.std.proofs.lemmas.Bool.{true≢false, eqb-true, and_parts, or_cases}
 use Rattle.units.specs.declared.side.Side.{Side}
@@ -22,7 +22,7 @@ use Rattle.ledger.proofs.Standing.{rows_stand_by_lots}
 use Rattle.ledger.proofs.Naming.{named_there}
 
 -- what holds of every member holds of all
-pub all_members : {X : Type 0} (P : X → Type 0) (xs : List X) → ((x : X) → In x xs → P x) → All P xs
+pub all_members : {X : Type 0} (P : X → Type 0) (xs : List X) → ((x : X) → In x xs → P x) → AllByRecursion P xs
 all_members P xs f = All-weaker (λ x. In x xs) P f xs (all_in xs)
 
 -- two units with one number are one
@@ -72,7 +72,7 @@ known_there us ns u i r h e =
     subst (λ v. (side : Side) × OfLot r (lots side v)) (one_unit us ns k.0 u k.1.0 i (sym o.0 ∙ e)) o.1
 
 -- where every row is of a known lot, those of a unit are of its lots
-pub all_known : (us : List UnitState) → Numbered us → (rows : List Row) → All (λ r. is_known us r ≡ true) rows → All (λ u. Known u rows) us
+pub all_known : (us : List UnitState) → Numbered us → (rows : List Row) → AllByRecursion (λ r. is_known us r ≡ true) rows → AllByRecursion (λ u. Known u rows) us
 all_known us ns rows h =
     all_members (λ u. Known u rows) us
     (λ u i. let own = own_rows (number u) rows in
@@ -98,7 +98,7 @@ pub facts : (l : Ledger) → Invariant l → l.closed ≡ true → Facts l
 facts l v c =
     let us = l.units in
     let known = all_known us v.numbered l.rows (All-weaker (SoundRow us l.given) (λ r. is_known us r ≡ true) (λ r s. s.known) l.rows v.sound_rows) in
-    let closed : All OfClosed us = all_members OfClosed us (λ u i. of_closed u (in_all Kept u us i v.kept) (in_all (λ w. 1 ≤ length w.offer) u us i (v.all_offered c))) in
+    let closed : AllByRecursion OfClosed us = all_members OfClosed us (λ u i. of_closed u (in_all Kept u us i v.kept) (in_all (λ w. 1 ≤ length w.offer) u us i (v.all_offered c))) in
     record {
       numbered = v.numbered;
       of_closed = closed;

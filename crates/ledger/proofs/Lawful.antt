@@ -1,6 +1,6 @@
 -- Every selection that a closed ledger accepts keeps the laws.
 use Rattle.std.proofs.Common.{◌≡◌, ℕ, ◌+◌, ◌<◌, ◌≤◌, Bool, true, false, cond, not, ◌&&◌, eqb, List, [], ◌∷◌, map, length, pos, ◌+ℤ◌, ◌*ℤ◌, ◌≤ℤ◌, Some, None, Option, sym, refl, ap, ◌∙◌, subst, arith}
-use Rattle.std.specs.List.{AllByRecursion as All}
+use Rattle.std.specs.List.{AllByRecursion}
 use Rattle.std.proofs.lemmas.List.{length-map}
 use Rattle.std.proofs.lemmas.Bool.{true≢false, not-false, ltb-false, leb-false, eqb-false}
 use Rattle.units.specs.declared.side.MarketNumber.{MarketNumber}
@@ -29,7 +29,7 @@ use Rattle.ledger.proofs.Picking.{new_rows_permitted, new_rows_once, new_rows_ar
 -- ---- what an answer says of the table of refusals
 -- where the answer is no refusal, no line applied and the ledger became `after`
 pub record Passed (ls : List Line) (before : Ledger) (after : Ledger × Answer) : Type 0 where
-  pub none_applied : All (λ x. x.applies ≡ false) ls
+  pub none_applied : AllByRecursion (λ x. x.applies ≡ false) ls
   pub becomes : by_table ls before after ≡ after
 
 module _ (a : Answer) (no_refusal : (n : ℕ) → refused n ≡ a → ⊥) (before : Ledger) where
@@ -125,7 +125,7 @@ same_selection l k fl fk same m m' t t' tell d =
 
 -- ---- the laws
 pub laws : (l : Ledger) → Facts l → (m : MarketModel) (t : RuleModel) (n d : ℕ) (s : SlipFigures) → (step l (selecting m t n d)).1 ≡ slip s →
-    (between : All (λ u. Between u (standing_of (step l (selecting m t n d)).0.rows (number u))) (step l (selecting m t n d)).0.units) →
+    (between : AllByRecursion (λ u. Between u (standing_of (step l (selecting m t n d)).0.rows (number u))) (step l (selecting m t n d)).0.units) →
     (facts_of : (k : Ledger) → Reachable k → k.closed ≡ true → Facts k) → Laws l (step l (selecting m t n d)).0 m t n d s
 laws l facts m t n d s h between facts_of =
     let a = said l m t n d s h in
@@ -139,7 +139,7 @@ laws l facts m t n d s h between facts_of =
       every_unit_stays_between = between;
       new = new;
       rows_are_added = ap (λ x. x.rows) a.becomes;
-      rows_are_of_lots = subst (λ i. All (NewRow (open_lots m.side l) i n) new) (sym its_number) (new_rows_are l facts m t k d n a.is_market);
+      rows_are_of_lots = subst (λ i. AllByRecursion (NewRow (open_lots m.side l) i n) new) (sym its_number) (new_rows_are l facts m t k d n a.is_market);
       no_lot_twice = new_rows_once l facts m t k d;
       new_rows_are_permitted = new_rows_permitted l facts m t k d;
       slip_has_their_megawatts = megawatts;

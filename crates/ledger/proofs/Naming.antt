@@ -1,6 +1,6 @@
 -- Units by their numbers: where no two have one number, a number names the unit that has it, whatever the order.
 use Rattle.std.proofs.Common.{◌≡◌, ℕ, ◌⊎◌, List, [], ◌∷◌, Some, None, refl, ◌∙◌, subst, inl, inr}
-use Rattle.std.specs.List.{AllByRecursion as All}
+use Rattle.std.specs.List.{AllByRecursion}
 use Rattle.std.proofs.lemmas.Bool.{cases_eq, eq-eqb, ne_eqb}
 use Rattle.units.specs.Units.{UnitState}
 use Rattle.markets.specs.Remainders.{In}
@@ -15,18 +15,18 @@ later_named : (n : ℕ) (u : UnitState) (us : List UnitState) → (number u ≡ 
 later_named n u us ne = rw (ne_eqb (number u) n ne)
 
 -- the number of each unit names it
-pub names_itself : (us : List UnitState) → Numbered us → All (λ u. unit_named (number u) us ≡ Some u) us
+pub names_itself : (us : List UnitState) → Numbered us → AllByRecursion (λ u. unit_named (number u) us ≡ Some u) us
 names_itself [] h = tt
 names_itself (u ∷ us) h = (
   first_named (number u) u us refl,
   on us h.0 (names_itself us h.1),
 )
   where
-    on : (vs : List UnitState) → All (λ v. number u ≡ number v → ⊥) vs → All (λ v. unit_named (number v) us ≡ Some v) vs → All (λ v. unit_named (number v) (u ∷ us) ≡ Some v) vs
+    on : (vs : List UnitState) → AllByRecursion (λ v. number u ≡ number v → ⊥) vs → AllByRecursion (λ v. unit_named (number v) us ≡ Some v) vs → AllByRecursion (λ v. unit_named (number v) (u ∷ us) ≡ Some v) vs
     on [] n k = tt
     on (v ∷ vs) n k = (later_named (number v) u us n.0 ∙ k.0, on vs n.1 k.1)
 
-pub none_named : (n : ℕ) (us : List UnitState) → All (λ u. number u ≡ n → ⊥) us → unit_named n us ≡ None
+pub none_named : (n : ℕ) (us : List UnitState) → AllByRecursion (λ u. number u ≡ n → ⊥) us → unit_named n us ≡ None
 none_named n [] h = refl
 none_named n (u ∷ us) h = later_named n u us h.0 ∙ none_named n us h.1
 
@@ -37,7 +37,7 @@ pub record Names (n : ℕ) (us : List UnitState) (u : UnitState) : Type 0 where
   pub named : unit_named n us ≡ Some u
 
 -- a number names a unit, or no unit has it
-pub cases_named : (n : ℕ) (us : List UnitState) → ((u : UnitState) × Names n us u) ⊎ All (λ u. number u ≡ n → ⊥) us
+pub cases_named : (n : ℕ) (us : List UnitState) → ((u : UnitState) × Names n us u) ⊎ AllByRecursion (λ u. number u ≡ n → ⊥) us
 cases_named n [] = inr tt
 cases_named n (u ∷ us) = elim (cases_eq (number u) n) [
   | inl e ↦ inl (u, record { member = inl refl; numbered = e; named = first_named n u us e })

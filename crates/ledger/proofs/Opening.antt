@@ -1,7 +1,7 @@
 -- The lots of all units with their remainders: fit to be put in merit order, and each unit has left in them what is eligible of it.
 use Rattle.std.proofs.Common.{◌≡◌, ℕ, ◌+◌, ◌≤◌, cond, eqb, List, [], ◌∷◌, map, ℤ, ◌<ℤ◌, Some, sym, refl, ap, ◌∙◌, arith}
 use borrow.Author.Differences.{ints}
-use Rattle.std.specs.List.{flat_map, AllByRecursion as All}
+use Rattle.std.specs.List.{flat_map, AllByRecursion}
 use Rattle.std.proofs.ByRecursion.{All-weaker, All-map}
 use Rattle.std.proofs.lemmas.Bool.{eq-eqb, ne_eqb}
 use Rattle.units.specs.declared.side.Side.{Side}
@@ -29,7 +29,7 @@ module _ (side : Side) (rows : List Row) where
   abbrev of_unit : UnitState → List Remaining
   of_unit u = map (remaining_lot rows u) (lots side u)
 
-  accepted_lots : (u : UnitState) → OfClosed u → All (λ r. Accepted r.figures) (of_unit u)
+  accepted_lots : (u : UnitState) → OfClosed u → AllByRecursion (λ r. Accepted r.figures) (of_unit u)
   accepted_lots u c = All-map (λ r. Accepted r.figures) (remaining_lot rows u) (lots side u) (all_of (λ l. Accepted u.figures) (λ l. c.accepted) (lots side u))
 
   lots_differ : (u : UnitState) → OfClosed u → Pairwise Differ (of_unit u)
@@ -38,10 +38,10 @@ module _ (side : Side) (rows : List Row) where
       (pairwise_weaker (λ a b. a.cost <ℤ b.cost) (λ a b. Differ (remaining_lot rows u a) (remaining_lot rows u b))
       (λ a b h. record { one_unit = λ e. refl; two_costs = λ e f. dearer_differs a.cost b.cost h f }) (lots side u) (lots_rise side u c.rising))
 
-  units_differ : (u v : UnitState) → (number u ≡ number v → ⊥) → All (λ a. All (Differ a) (of_unit v)) (of_unit u)
+  units_differ : (u v : UnitState) → (number u ≡ number v → ⊥) → AllByRecursion (λ a. AllByRecursion (Differ a) (of_unit v)) (of_unit u)
   units_differ u v n =
-      All-map (λ a. All (Differ a) (of_unit v)) (remaining_lot rows u) (lots side u)
-      (all_of (λ l. All (Differ (remaining_lot rows u l)) (of_unit v))
+      All-map (λ a. AllByRecursion (Differ a) (of_unit v)) (remaining_lot rows u) (lots side u)
+      (all_of (λ l. AllByRecursion (Differ (remaining_lot rows u l)) (of_unit v))
       (λ l. All-map (Differ (remaining_lot rows u l)) (remaining_lot rows v) (lots side v)
       (all_of (λ k. Differ (remaining_lot rows u l) (remaining_lot rows v k)) (λ k. record { one_unit = λ e. absurd (n e); two_costs = λ e f. n e }) (lots side v))) (lots side u))
 
@@ -49,10 +49,10 @@ pub open_lots_are_orderly : OpenLotsAreOrderly
 open_lots_are_orderly side l ns cs =
     let g = of_unit side l.rows in
     record {
-      accepted = all_joined (λ r. Accepted r.figures) g l.units (All-weaker OfClosed (λ u. All (λ r. Accepted r.figures) (g u)) (accepted_lots side l.rows) l.units cs);
+      accepted = all_joined (λ r. Accepted r.figures) g l.units (All-weaker OfClosed (λ u. AllByRecursion (λ r. Accepted r.figures) (g u)) (accepted_lots side l.rows) l.units cs);
       differ = pairwise_joined Differ g l.units
           (All-weaker OfClosed (λ u. Pairwise Differ (g u)) (lots_differ side l.rows) l.units cs)
-          (pairwise_weaker (λ u v. number u ≡ number v → ⊥) (λ u v. All (λ a. All (Differ a) (g v)) (g u)) (units_differ side l.rows) l.units ns);
+          (pairwise_weaker (λ u v. number u ≡ number v → ⊥) (λ u v. AllByRecursion (λ a. AllByRecursion (Differ a) (g v)) (g u)) (units_differ side l.rows) l.units ns);
     }
 
 -- ---- what a unit's lots have left
@@ -71,20 +71,20 @@ module _ (side : Side) (rows : List Row) where
   split : (v : ℕ) (u : UnitState) (us : List UnitState) → left_of v (lots_of (u ∷ us)) ≡ left_of v (of_unit side rows u) + left_of v (lots_of us)
   split v u us = sum_of-append (λ (r : Remaining). cond (eqb (unit r) v) r.rest 0) (of_unit side rows u) (lots_of us)
 
-  none_of : (v : ℕ) (us : List UnitState) → All (λ u. number u ≡ v → ⊥) us → left_of v (lots_of us) ≡ 0
+  none_of : (v : ℕ) (us : List UnitState) → AllByRecursion (λ u. number u ≡ v → ⊥) us → left_of v (lots_of us) ≡ 0
   none_of v [] h = refl
   none_of v (u ∷ us) h = omega (arith, split v u us, others v u h.0 (lots side u), none_of v us h.1)
 
   -- each unit's lots have left what the unit has left
-  lefts : (us : List UnitState) → Numbered us → All (λ u. left_of (number u) (lots_of us) ≡ left side u (lot_stands rows (number u))) us
+  lefts : (us : List UnitState) → Numbered us → AllByRecursion (λ u. left_of (number u) (lots_of us) ≡ left side u (lot_stands rows (number u))) us
   lefts [] ns = tt
   lefts (u ∷ us) ns = (
     omega (arith, split (number u) u us, own u (lots side u), none_of (number u) us (All-weaker (λ v. number u ≡ number v → ⊥) (λ v. number v ≡ number u → ⊥) (λ v n e. n (sym e)) us ns.0)),
     on us ns.0 (lefts us ns.1),
   )
     where
-      on : (vs : List UnitState) → All (λ v. number u ≡ number v → ⊥) vs → All (λ v. left_of (number v) (lots_of us) ≡ left side v (lot_stands rows (number v))) vs →
-          All (λ v. left_of (number v) (lots_of (u ∷ us)) ≡ left side v (lot_stands rows (number v))) vs
+      on : (vs : List UnitState) → AllByRecursion (λ v. number u ≡ number v → ⊥) vs → AllByRecursion (λ v. left_of (number v) (lots_of us) ≡ left side v (lot_stands rows (number v))) vs →
+          AllByRecursion (λ v. left_of (number v) (lots_of (u ∷ us)) ≡ left side v (lot_stands rows (number v))) vs
       on [] n h = tt
       on (v ∷ vs) n h = (omega (arith, split (number v) u us, others (number v) u n.0 (lots side u), h.0), on vs n.1 h.1)
 
@@ -95,9 +95,9 @@ energy_is m l u e k = ap (energy_named m l.rows) e ∙ ap (m.eligible u) (rows_s
 pub eligible_is_left : EligibleIsLeft
 eligible_is_left m l ns ps = on l.units ps (names_itself l.units ns) (lefts m.side l.rows l.units ns)
   where
-    on : (us : List UnitState) → All (λ u. Placed u (lot_stands l.rows (number u)) × Known u l.rows) us → All (λ u. unit_named (number u) l.units ≡ Some u) us →
-        All (λ u. left_of (number u) (open_lots m.side l) ≡ left m.side u (lot_stands l.rows (number u))) us →
-        All (λ u. eligible_energy m l (number u) ≤ left_of (number u) (open_lots m.side l)) us
+    on : (us : List UnitState) → AllByRecursion (λ u. Placed u (lot_stands l.rows (number u)) × Known u l.rows) us → AllByRecursion (λ u. unit_named (number u) l.units ≡ Some u) us →
+        AllByRecursion (λ u. left_of (number u) (open_lots m.side l) ≡ left m.side u (lot_stands l.rows (number u))) us →
+        AllByRecursion (λ u. eligible_energy m l (number u) ≤ left_of (number u) (open_lots m.side l)) us
     on [] p e h = tt
     on (u ∷ us) p e h = (
       omega (arith, energy_is m l u e.0 p.0.1, m.within_remainders u (lot_stands l.rows (number u)) p.0.0, h.0),

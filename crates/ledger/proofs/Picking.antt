@@ -1,7 +1,7 @@
 -- The rows of a selection: a permitted choice that covers the demand or all that is eligible, and costs least.
 use Rattle.std.proofs.Common.{◌≡◌, ℕ, ◌+◌, ◌≤◌, min, Bool, true, false, cond, eqb, ltb, List, [], ◌∷◌, map, ℤ, pos, ◌+ℤ◌, ◌*ℤ◌, ◌≤ℤ◌, Some, filter, sym, refl, ap, ◌∙◌, subst, ap₂, inl, inr, arith}
 use borrow.Author.Differences.{ints}
-use Rattle.std.specs.List.{AllByRecursion as All}
+use Rattle.std.specs.List.{AllByRecursion}
 use Rattle.std.proofs.ByRecursion.{All-weaker, All-map, all_kept_by, kept_by_passes, all_shuffled}
 use Rattle.std.proofs.lemmas.List.Sorted.{IsPermutation-sym}
 use Rattle.std.proofs.lemmas.Bool.{eq-eqb, ne_eqb, ltb-true, ltb-false, cond_both}
@@ -48,9 +48,9 @@ open_lots_keyed side l ns =
     (all_of (λ u. Pairwise OtherKey (g u))
     (λ u. pairwise_map OtherKey (remaining_lot l.rows u) (lots side u)
     (pairwise_weaker Unlike (λ a b. OtherKey (remaining_lot l.rows u a) (remaining_lot l.rows u b)) (λ a b h _ x y. h x y) (lots side u) (keys_differ side u))) l.units)
-    (pairwise_weaker (λ u v. number u ≡ number v → ⊥) (λ u v. All (λ a. All (OtherKey a) (g v)) (g u))
-    (λ u v n. All-map (λ a. All (OtherKey a) (g v)) (remaining_lot l.rows u) (lots side u)
-    (all_of (λ a. All (OtherKey (remaining_lot l.rows u a)) (g v))
+    (pairwise_weaker (λ u v. number u ≡ number v → ⊥) (λ u v. AllByRecursion (λ a. AllByRecursion (OtherKey a) (g v)) (g u))
+    (λ u v n. All-map (λ a. AllByRecursion (OtherKey a) (g v)) (remaining_lot l.rows u) (lots side u)
+    (all_of (λ a. AllByRecursion (OtherKey (remaining_lot l.rows u a)) (g v))
     (λ a. All-map (OtherKey (remaining_lot l.rows u a)) (remaining_lot l.rows v) (lots side v)
     (all_of (λ b. OtherKey (remaining_lot l.rows u a) (remaining_lot l.rows v b)) (λ b e x y. n e) (lots side v))) (lots side u)))
     l.units ns)
@@ -95,16 +95,16 @@ pub unit_by_takes : (f : Choice) (n : ℕ) (ls : List Remaining) → taken_of n 
 unit_by_takes f n [] = refl
 unit_by_takes f n (l ∷ ls) = ap (λ k. cond (eqb (unit l) n) (taken_by f l) 0 + k) (unit_by_takes f n ls)
 
-pub within_by : (f : Choice) (ls : List Remaining) → All (λ r. taken_by f r ≤ r.rest) ls → Within ls (map (taken_by f) ls)
+pub within_by : (f : Choice) (ls : List Remaining) → AllByRecursion (λ r. taken_by f r ≤ r.rest) ls → Within ls (map (taken_by f) ls)
 within_by f [] h = tt
 within_by f (l ∷ ls) h = (h.0, within_by f ls h.1)
 
-pub by_within : (f : Choice) (ls : List Remaining) → Within ls (map (taken_by f) ls) → All (λ r. taken_by f r ≤ r.rest) ls
+pub by_within : (f : Choice) (ls : List Remaining) → Within ls (map (taken_by f) ls) → AllByRecursion (λ r. taken_by f r ≤ r.rest) ls
 by_within f [] w = tt
 by_within f (l ∷ ls) w = (w.0, by_within f ls w.1)
 
 -- ---- lots with their takes
-pub all_paired : (P : Remaining → Type 0) (ls : List Remaining) (xs : List ℕ) → All P ls → All (λ t. P t.lot) (paired ls xs)
+pub all_paired : (P : Remaining → Type 0) (ls : List Remaining) (xs : List ℕ) → AllByRecursion P ls → AllByRecursion (λ t. P t.lot) (paired ls xs)
 all_paired P [] xs h = tt
 all_paired P (l ∷ ls) [] h = tt
 all_paired P (l ∷ ls) (x ∷ xs) h = (h.0, all_paired P ls xs h.1)
@@ -133,7 +133,7 @@ sum_kept p f (x ∷ xs) =
     let ih = sum_kept p f xs in
     elim (p x) as (λ b. sum_of f (cond b (x ∷ filter p xs) (filter p xs)) ≡ cond b (f x) 0 + sum_of (λ y. cond (p y) (f y) 0) xs) [ true ↦ omega arith | false ↦ omega arith ]
 
-map_same : {X Y : Type 0} (f g : X → Y) (xs : List X) → All (λ x. f x ≡ g x) xs → map f xs ≡ map g xs
+map_same : {X Y : Type 0} (f g : X → Y) (xs : List X) → AllByRecursion (λ x. f x ≡ g x) xs → map f xs ≡ map g xs
 map_same f g [] h = refl
 map_same f g (x ∷ xs) h = ap₂ ◌∷◌ h.0 (map_same f g xs h.1)
 
@@ -156,7 +156,7 @@ module _ (n : ℕ) (k : MarketNumber) where
   picked_same l x = rw (eq-eqb (unit l) (unit l) refl, eq-eqb l.up l.up refl, eq-eqb l.down l.down refl)
 
   -- nothing is taken of a lot that is not among these
-  picked_of_others : (a : Remaining) (ls : List Remaining) (xs : List ℕ) → All (OtherKey a) ls → sum_of (picked a) (paired ls xs) ≡ 0
+  picked_of_others : (a : Remaining) (ls : List Remaining) (xs : List ℕ) → AllByRecursion (OtherKey a) ls → sum_of (picked a) (paired ls xs) ≡ 0
   picked_of_others a [] xs h = refl
   picked_of_others a (l ∷ ls) [] h = refl
   picked_of_others a (l ∷ ls) (x ∷ xs) h = omega (arith, picked_other a (record { lot = l; megawatts = x }) h.0, picked_of_others a ls xs h.1)
@@ -199,31 +199,31 @@ module _ (n : ℕ) (k : MarketNumber) where
       (λ _. ap (λ z. (pos x *ℤ l.cost) +ℤ z) ih) (λ e. no_cost x l.cost (cost_of (map (row_for n k) ts)) (cost-of-takes ls xs) (omega (arith, ltb-false 0 x e)) ih)
 
 -- ---- the units of the lots
-sum_same : {X : Type 0} (f g : X → ℕ) (xs : List X) → All (λ x. f x ≡ g x) xs → sum_of f xs ≡ sum_of g xs
+sum_same : {X : Type 0} (f g : X → ℕ) (xs : List X) → AllByRecursion (λ x. f x ≡ g x) xs → sum_of f xs ≡ sum_of g xs
 sum_same f g [] h = refl
 sum_same f g (x ∷ xs) h = omega (arith, h.0, sum_same f g xs h.1)
 
-all_unmapped : {X Y : Type 0} (P : Y → Type 0) (f : X → Y) (xs : List X) → All P (map f xs) → All (λ x. P (f x)) xs
+all_unmapped : {X Y : Type 0} (P : Y → Type 0) (f : X → Y) (xs : List X) → AllByRecursion P (map f xs) → AllByRecursion (λ x. P (f x)) xs
 all_unmapped P f [] h = tt
 all_unmapped P f (x ∷ xs) h = (h.0, all_unmapped P f xs h.1)
 
 -- what holds of every unit's number holds of every lot's
-pub all_open : (P : ℕ → Type 0) (side : Side) (l : Ledger) → All (λ u. P (number u)) l.units → All (λ r. P (unit r)) (open_lots side l)
+pub all_open : (P : ℕ → Type 0) (side : Side) (l : Ledger) → AllByRecursion (λ u. P (number u)) l.units → AllByRecursion (λ r. P (unit r)) (open_lots side l)
 all_open P side l h =
     let g : UnitState → List Remaining = λ u. map (remaining_lot l.rows u) (lots side u) in
     all_joined (λ r. P (unit r)) g l.units
-    (All-weaker (λ u. P (number u)) (λ u. All (λ r. P (unit r)) (g u))
+    (All-weaker (λ u. P (number u)) (λ u. AllByRecursion (λ r. P (unit r)) (g u))
     (λ u p. All-map (λ r. P (unit r)) (remaining_lot l.rows u) (lots side u) (all_of (λ _. P (number u)) (λ _. p) (lots side u))) l.units h)
 
 -- nothing is taken of a unit that has none of the lots
-none_taken : (f : Choice) (n : ℕ) (ls : List Remaining) → All (λ r. unit r ≡ n → ⊥) ls → unit_takes f n ls ≡ 0
+none_taken : (f : Choice) (n : ℕ) (ls : List Remaining) → AllByRecursion (λ r. unit r ≡ n → ⊥) ls → unit_takes f n ls ≡ 0
 none_taken f n [] h = refl
 none_taken f n (l ∷ ls) h = rw (ne_eqb (unit l) n h.0) (omega (arith, none_taken f n ls h.1))
 
 -- ---- the rows of a selection
 module _ (l : Ledger) (facts : Facts l) (m : MarketModel) where
   -- the eligible energy by number is that of the unit
-  pub energy_by_number : All (λ u. eligible_energy m l (number u) ≡ m.eligible u (standing_of l.rows (number u))) l.units
+  pub energy_by_number : AllByRecursion (λ u. eligible_energy m l (number u) ≡ m.eligible u (standing_of l.rows (number u))) l.units
   energy_by_number =
       All-weaker (λ u. unit_named (number u) l.units ≡ Some u) (λ u. eligible_energy m l (number u) ≡ m.eligible u (standing_of l.rows (number u)))
       (λ u e. ap (energy_named m l.rows) e) l.units (names_itself l.units facts.numbered)
@@ -248,7 +248,7 @@ module _ (l : Ledger) (facts : Facts l) (m : MarketModel) where
       let e : ℕ → ℕ = eligible_energy m l in
       let W : UnitState → Type 0 = λ u. takes_of (number u) ≤ m.eligible u (standing_of l.rows (number u)) in
       let E : UnitState → Type 0 = λ u. e (number u) ≡ m.eligible u (standing_of l.rows (number u)) in
-      let within : All (λ u. takes_of (number u) ≤ e (number u)) l.units =
+      let within : AllByRecursion (λ u. takes_of (number u) ≤ e (number u)) l.units =
       All-weaker (λ u. W u × E u) (λ u. takes_of (number u) ≤ e (number u)) (λ u h. omega (arith, h.0, h.1)) l.units (all_zip W E l.units p.within_eligible energy_by_number) in
       elim (cases_named n l.units) [
         | inl (u, c) ↦ subst (λ k. takes_of k ≤ e k) c.numbered (in_all (λ v. takes_of (number v) ≤ e (number v)) u l.units c.member within)
@@ -300,7 +300,7 @@ module _ (l : Ledger) (facts : Facts l) (m : MarketModel) where
           (pairwise_weaker (λ a b. OtherKey a.lot b.lot) (λ a b. some_taken a ≡ true → some_taken b ≡ true → OtherKey a.lot b.lot) (λ a b h _ _. h) ps
           (pairwise_paired OtherKey ranked taken ranked_keyed)))
 
-      pub new_rows_are : (n : ℕ) → market_numbered n ≡ Some k → All (NewRow (open_lots m.side l) (l.given + 1) n) (new_rows m t k d l)
+      pub new_rows_are : (n : ℕ) → market_numbered n ≡ Some k → AllByRecursion (NewRow (open_lots m.side l) (l.given + 1) n) (new_rows m t k d l)
       new_rows_are n is =
           let O = open_lots m.side l in
           let ps = paired ranked taken in

@@ -5,7 +5,7 @@ use mathlib.Core.Logic.{∥∥₁_map, ∥∥₁_elim}
 use native.Mathlib.Bridge.{le_prop}
 use base.Stored.{coded_ℕ, coded_bool}
 use denote.Struct.Props.{≡_prop}
-use Rattle.std.specs.List.{AllByRecursion as All}
+use Rattle.std.specs.List.{AllByRecursion}
 use Rattle.std.proofs.lemmas.List.{length-map}
 use Rattle.std.proofs.lemmas.Bool.{not-false, leb-false, ltb-false}
 use Rattle.units.specs.declared.side.MarketNumber.{MarketNumber}
@@ -44,7 +44,7 @@ pub leads_none : (l : Ledger) → l ≡ empty → Reachable l
 leads_none l e = ∣ ([], sym e) ∣₁
 
 -- ---- a ledger keeps the invariant in one way at most
-all_prop : {X : Type 0} (P : X → Type 0) → ((x : X) (a b : P x) → a ≡ b) → (xs : List X) (a b : All P xs) → a ≡ b
+all_prop : {X : Type 0} (P : X → Type 0) → ((x : X) (a b : P x) → a ≡ b) → (xs : List X) (a b : AllByRecursion P xs) → a ≡ b
 all_prop P f [] a b = refl
 all_prop P f (x ∷ xs) a b = λ i. (f x a.0 b.0 i, all_prop P f xs a.1 b.1 i)
 
@@ -118,7 +118,7 @@ invariant_prop l a b = λ i. record {
 -- ---- every step keeps it, by what is known of the rows of a selection
 abbrev pub RowsFacts : Type 0
 RowsFacts = (l : Ledger) → Facts l → (m : MarketModel) (t : RuleModel) (k : MarketNumber) (d : ℕ) (n : ℕ) → market_numbered n ≡ Some k →
-    PermittedChoice m l (lot_stands (new_rows m t k d l)) × (All (NewRow (open_lots m.side l) (l.given + 1) n) (new_rows m t k d l) × Pairwise OtherLot (new_rows m t k d l))
+    PermittedChoice m l (lot_stands (new_rows m t k d l)) × (AllByRecursion (NewRow (open_lots m.side l) (l.given + 1) n) (new_rows m t k d l) × Pairwise OtherLot (new_rows m t k d l))
 
 module _ (rows_facts : RowsFacts) where
   selecting_keeps : (l : Ledger) → Invariant l → (m : MarketModel) (t : RuleModel) (n d : ℕ) (o : Option MarketNumber) → market_numbered n ≡ o → Passes (select_lines m t d l o) → Invariant (selected m t d l o).0

@@ -1,6 +1,6 @@
 -- The lots of a side have different keys, so what stands of a side by rows is what stands of its lots.
 use Rattle.std.proofs.Common.{◌≡◌, ℕ, ◌+◌, ◌<◌, true, cond, List, [], ◌∷◌, map, reverse, sym, refl, ap, ◌∙◌, inl, inr, arith}
-use Rattle.std.specs.List.{AllByRecursion as All}
+use Rattle.std.specs.List.{AllByRecursion}
 use Rattle.std.proofs.ByRecursion.{All-weaker, All-map, all_kept_by}
 use Rattle.std.proofs.lemmas.Bool.{eq-eqb, ne_eqb}
 use Rattle.std.proofs.lemmas.Bool.Decides.{nat_tests}
@@ -23,7 +23,7 @@ use Rattle.ledger.specs.Theorems.{RowsStandByLots}
 abbrev Rises : Span → Span → Type 0
 Rises s t = s.number < t.number
 
-numbers_from : (k i b : ℕ) (ps : List Pair) → k < i → All (λ s. k < s.number) (stacked i b ps)
+numbers_from : (k i b : ℕ) (ps : List Pair) → k < i → AllByRecursion (λ s. k < s.number) (stacked i b ps)
 numbers_from k i b [] h = tt
 numbers_from k i b (p ∷ ps) h = (h, numbers_from k (i + 1) (b + p.quantity) ps (omega arith))
 
@@ -45,9 +45,9 @@ unlike_parts Band n ss h =
     (all_of (λ s. Pairwise Unlike (map (band_lot n s) rs))
     (λ s. pairwise_map Unlike (band_lot n s) rs
     (pairwise_weaker (λ t t'. Rises t' t) (λ t t'. Unlike (band_lot n s t) (band_lot n s t')) (λ t t' b x y. omega arith) rs (pairwise_reverse Rises ss h))) ss)
-    (pairwise_weaker Rises (λ s s'. All (λ a. All (Unlike a) (map (band_lot n s') rs)) (map (band_lot n s) rs))
-    (λ s s' b. All-map (λ a. All (Unlike a) (map (band_lot n s') rs)) (band_lot n s) rs
-    (all_of (λ t. All (Unlike (band_lot n s t)) (map (band_lot n s') rs))
+    (pairwise_weaker Rises (λ s s'. AllByRecursion (λ a. AllByRecursion (Unlike a) (map (band_lot n s') rs)) (map (band_lot n s) rs))
+    (λ s s' b. All-map (λ a. AllByRecursion (Unlike a) (map (band_lot n s') rs)) (band_lot n s) rs
+    (all_of (λ t. AllByRecursion (Unlike (band_lot n s t)) (map (band_lot n s') rs))
     (λ t. All-map (Unlike (band_lot n s t)) (band_lot n s') rs (all_of (λ t'. Unlike (band_lot n s t) (band_lot n s' t')) (λ t' x y. omega arith) rs)) rs))
     ss h)
 
@@ -66,7 +66,7 @@ OfSide Band i j = (0 < i) × (0 < j)
 abbrev pub KeyOf : Side → LotFigures → Type 0
 KeyOf side l = OfSide side l.up l.down
 
-keys_parts : (side : Side) (n : ℕ) (ss : List Span) → All (λ s. 0 < s.number) ss → All (KeyOf side) (parts side n ss)
+keys_parts : (side : Side) (n : ℕ) (ss : List Span) → AllByRecursion (λ s. 0 < s.number) ss → AllByRecursion (KeyOf side) (parts side n ss)
 keys_parts Up n ss h = All-map (KeyOf Up) (up_lot n) ss (All-weaker (λ s. 0 < s.number) (λ s. KeyOf Up (up_lot n s)) (λ s k. (k, refl)) ss h)
 keys_parts Down n ss h =
     All-map (KeyOf Down) (down_lot n) (reverse ss)
@@ -74,10 +74,10 @@ keys_parts Down n ss h =
 keys_parts Band n ss h =
     let rs = reverse ss in
     all_joined (KeyOf Band) (λ s. map (band_lot n s) rs) ss
-    (All-weaker (λ s. 0 < s.number) (λ s. All (KeyOf Band) (map (band_lot n s) rs))
+    (All-weaker (λ s. 0 < s.number) (λ s. AllByRecursion (KeyOf Band) (map (band_lot n s) rs))
     (λ s k. All-map (KeyOf Band) (band_lot n s) rs (All-weaker (λ t. 0 < t.number) (λ t. KeyOf Band (band_lot n s t)) (λ t j. (k, j)) rs (all_reverse (λ t. 0 < t.number) ss h))) ss h)
 
-pub keys_of : (side : Side) (u : UnitState) → All (KeyOf side) (lots side u)
+pub keys_of : (side : Side) (u : UnitState) → AllByRecursion (KeyOf side) (lots side u)
 keys_of side u = all_kept_by some (KeyOf side) (parts side u.notification (stack u.offer)) (keys_parts side u.notification (stack u.offer) (numbers_from 0 1 0 u.offer (omega arith)))
 
 -- ---- one row over the lots of a side
@@ -94,7 +94,7 @@ none_share : (r : Row) (ls : List LotFigures) → (OfLot r ls → ⊥) → sum_o
 none_share r [] n = refl
 none_share r (l ∷ ls) n = omega (arith, no_share r l (λ e. n (inl e)), none_share r ls (λ m. n (inr m)))
 
-unlike_of : (r : Row) (l : LotFigures) (ls : List LotFigures) → All (Unlike l) ls → OfLot r ls → (r.up ≡ l.up) × (r.down ≡ l.down) → ⊥
+unlike_of : (r : Row) (l : LotFigures) (ls : List LotFigures) → AllByRecursion (Unlike l) ls → OfLot r ls → (r.up ≡ l.up) × (r.down ≡ l.down) → ⊥
 unlike_of r l [] h m e = m
 unlike_of r l (k ∷ ls) h (inl f) e = h.0 (sym e.0 ∙ f.0) (sym e.1 ∙ f.1)
 unlike_of r l (k ∷ ls) h (inr m) e = unlike_of r l ls h.1 m e
@@ -113,7 +113,7 @@ row_key Up r l e f k = (omega (arith, e, k.0), omega (arith, f, k.1))
 row_key Down r l e f k = (omega (arith, e, k.0), omega (arith, f, k.1))
 row_key Band r l e f k = (omega (arith, e, k.0), omega (arith, f, k.1))
 
-row_of : (side : Side) (r : Row) (ls : List LotFigures) → All (KeyOf side) ls → OfLot r ls → RowOf side r
+row_of : (side : Side) (r : Row) (ls : List LotFigures) → AllByRecursion (KeyOf side) ls → OfLot r ls → RowOf side r
 row_of side r [] h m = absurd m
 row_of side r (l ∷ ls) h (inl e) = row_key side r l e.0 e.1 h.0
 row_of side r (l ∷ ls) h (inr m) = row_of side r ls h.1 m
@@ -152,7 +152,7 @@ sum_turned : (rows : List Row) (ls : List LotFigures) → sum_of (λ l. sum_of (
 sum_turned [] ls = sum_zero ls
 sum_turned (r ∷ rows) ls = sum_both (share r) (λ l. sum_of (λ q. share q l) rows) ls ∙ ap (λ n. sum_of (share r) ls + n) (sum_turned rows ls)
 
-sum_rows : (u : UnitState) (side : Side) (rows : List Row) → All (λ r. (at : Side) × OfLot r (lots at u)) rows →
+sum_rows : (u : UnitState) (side : Side) (rows : List Row) → AllByRecursion (λ r. (at : Side) × OfLot r (lots at u)) rows →
     sum_of (λ r. sum_of (share r) (lots side u)) rows ≡ sum_of (λ r. cond (of_side side r) r.megawatts 0) rows
 sum_rows u side [] k = refl
 sum_rows u side (r ∷ rows) k = omega (arith, by_side u r k.0.0 side k.0.1, sum_rows u side rows k.1)

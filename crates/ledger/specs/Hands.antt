@@ -1,6 +1,6 @@
 -- The slips in hand: those of the open selections.
 use Rattle.std.specs.Prelude.{◌≡◌, ℕ, suc, ◌≤◌, Bool, true, cond, ◌&&◌, List, [], ◌∷◌, ◌==◌, ◌≢◌}
-use Rattle.std.specs.List.{AllByRecursion as All}
+use Rattle.std.specs.List.{AllByRecursion}
 use Rattle.lots.specs.Sums.{Pairwise}
 use Rattle.markets.specs.Remainders.{In}
 use Rattle.ledger.specs.declared.row.Row.{Row}
@@ -23,9 +23,9 @@ spent s (x ∷ xs) = cond (same_figures s x) xs (x ∷ spent s xs)
 
 -- these are the slips of the open selections, each once
 pub record Hand (ss : List SlipFigures) (rows : List Row) (given : ℕ) : Type 0 where
-  pub open_still : All (λ s. is_held s rows ≡ true) ss
+  pub open_still : AllByRecursion (λ s. is_held s rows ≡ true) ss
   pub every : (s : SlipFigures) → is_held s rows ≡ true → In s ss
   -- no two have one number
   pub sole : Pairwise (λ a b. a.number ≢ b.number) ss
   -- and no row has a number above the last given
-  pub past : All (λ r. r.selection ≤ given) rows
+  pub past : AllByRecursion (λ r. r.selection ≤ given) rows

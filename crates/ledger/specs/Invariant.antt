@@ -1,6 +1,6 @@
 -- What holds of every ledger that calls lead to.
 use Rattle.std.specs.Prelude.{◌≡◌, ℕ, ◌≤◌, Bool, true, false, ◌&&◌, ◌||◌, List, [], ◌∷◌, length, ◌==◌}
-use Rattle.std.specs.List.{AllByRecursion as All}
+use Rattle.std.specs.List.{AllByRecursion}
 use Rattle.units.specs.declared.side.Side.{Side}
 use Rattle.units.specs.declared.side.Side.TheVariants.{Up, Down, Band}
 use Rattle.units.specs.Pairs.{summed, prices_in_range, rises}
@@ -49,17 +49,17 @@ pub record SoundRow (units : List UnitState) (given : ℕ) (r : Row) : Type 0 wh
 
 -- no lot of the unit has more standing than its size
 abbrev pub Fits : List Row → UnitState → Type 0
-Fits rows u = (side : Side) → All (λ l. stands_of (lot_stands rows (number u)) l ≤ l.size) (lots side u)
+Fits rows u = (side : Side) → AllByRecursion (λ l. stands_of (lot_stands rows (number u)) l ≤ l.size) (lots side u)
 
 pub record Invariant (l : Ledger) : Type 0 where
   pub few_units : length l.units ≤ 32
   pub numbered : Numbered l.units
-  pub kept : All Kept l.units
+  pub kept : AllByRecursion Kept l.units
   -- after closing every unit has an offer, and before it no row stands
-  pub all_offered : l.closed ≡ true → All (λ u. 1 ≤ length u.offer) l.units
+  pub all_offered : l.closed ≡ true → AllByRecursion (λ u. 1 ≤ length u.offer) l.units
   pub no_rows_before_closing : l.closed ≡ false → length l.rows ≡ 0
   pub few_rows : length l.rows ≤ 512
   pub few_given : l.given ≤ 65535
-  pub sound_rows : All (SoundRow l.units l.given) l.rows
-  pub lots_fit : All (Fits l.rows) l.units
-  pub between : All (λ u. Between u (standing_of l.rows (number u))) l.units
+  pub sound_rows : AllByRecursion (SoundRow l.units l.given) l.rows
+  pub lots_fit : AllByRecursion (Fits l.rows) l.units
+  pub between : AllByRecursion (λ u. Between u (standing_of l.rows (number u))) l.units

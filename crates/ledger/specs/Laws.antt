@@ -1,6 +1,6 @@
 -- What every accepted selection keeps: coverage, least cost and equal commitments.
 use Rattle.std.specs.Prelude.{◌≡◌, ℕ, ◌≤◌, min, cond, List, [], ◌∷◌, ◌++◌, map, ℤ, pos, ◌+ℤ◌, ◌*ℤ◌, ◌≤ℤ◌, Some, ◌==◌, ◌≢◌}
-use Rattle.std.specs.List.{AllByRecursion as All}
+use Rattle.std.specs.List.{AllByRecursion}
 use Rattle.units.specs.declared.figures.Figures.{Figures}
 use Rattle.units.specs.Units.{UnitState}
 use Rattle.units.specs.Sides.{market_numbered}
@@ -43,8 +43,8 @@ cost_by f (r ∷ rs) = (pos (taken_by f r) *ℤ r.cost) +ℤ cost_by f rs
 
 -- a permitted choice takes from lots of the market's side within their remainders and within each unit's eligible energy
 pub record PermittedChoice (m : MarketModel) (l : Ledger) (f : Choice) : Type 0 where
-  pub within_remainders : All (λ r. taken_by f r ≤ r.rest) (open_lots m.side l)
-  pub within_eligible : All (λ u. unit_takes f (number u) (open_lots m.side l) ≤ m.eligible u (standing_of l.rows (number u))) l.units
+  pub within_remainders : AllByRecursion (λ r. taken_by f r ≤ r.rest) (open_lots m.side l)
+  pub within_eligible : AllByRecursion (λ u. unit_takes f (number u) (open_lots m.side l) ≤ m.eligible u (standing_of l.rows (number u))) l.units
 
 -- ---- the rows of a selection
 -- a row of a lot among these: its unit, pairs and cost are the lot's
@@ -92,11 +92,11 @@ pub record Laws (l after : Ledger) (m : MarketModel) (t : RuleModel) (number_car
   -- coverage: the lesser of the demand and the total eligible energy
   pub covers_the_demand_or_all_that_is_eligible : s.megawatts ≡ min demand (total_eligible m l)
   -- and every unit is between its floor and its availability afterwards
-  pub every_unit_stays_between : All (λ u. Between u (standing_of after.rows (number u))) after.units
+  pub every_unit_stays_between : AllByRecursion (λ u. Between u (standing_of after.rows (number u))) after.units
   -- its rows stand after the others, each of a lot of the market's side, and no lot twice
   pub new : List Row
   pub rows_are_added : after.rows ≡ l.rows ++ new
-  pub rows_are_of_lots : All (NewRow (open_lots m.side l) s.number number_carried) new
+  pub rows_are_of_lots : AllByRecursion (NewRow (open_lots m.side l) s.number number_carried) new
   pub no_lot_twice : Pairwise OtherLot new
   -- they are a permitted choice, and the slip has their megawatts and their cost
   pub new_rows_are_permitted : PermittedChoice m l (lot_stands new)

@@ -1,6 +1,6 @@
 -- What a selection sees of a ledger: what stands of each lot, what is left, and what is eligible.
 use Rattle.std.specs.Prelude.{◌≡◌, ℕ, Bool, cond, not, ◌&&◌, ◌⊎◌, List, [], ◌∷◌, map, Some, None, filter, Option, ◌==◌, ◌≢◌, nat_eq}
-use Rattle.std.specs.List.{flat_map, AllByRecursion as All}
+use Rattle.std.specs.List.{flat_map, AllByRecursion}
 use Rattle.units.specs.declared.side.Side.{Side}
 use Rattle.units.specs.declared.side.Side.TheVariants.{Up, Down, Band}
 use Rattle.units.specs.Units.{UnitState}
@@ -76,7 +76,7 @@ OfLot r (l ∷ ls) = ((r.up ≡ l.up) × (r.down ≡ l.down)) ⊎ OfLot r ls
 
 -- every row of the unit is of a lot of some side of it
 abbrev pub Known : UnitState → List Row → Type 0
-Known u rows = All (λ r. (side : Side) × OfLot r (lots side u)) (own_rows (number u) rows)
+Known u rows = AllByRecursion (λ r. (side : Side) × OfLot r (lots side u)) (own_rows (number u) rows)
 
 -- no two units have one number
 abbrev pub Numbered : List UnitState → Type 0

@@ -1,6 +1,6 @@
 -- What is proved of the ledger.
 use Rattle.std.specs.Prelude.{◌≡◌, ℕ, ◌≤◌, List}
-use Rattle.std.specs.List.{AllByRecursion as All}
+use Rattle.std.specs.List.{AllByRecursion}
 use Rattle.units.specs.declared.side.Side.{Side}
 use Rattle.units.specs.Units.{UnitState}
 use Rattle.lots.specs.Standings.{standing, OfClosed, Placed}
@@ -23,22 +23,22 @@ RowsStandByLots = (u : UnitState) (rows : List Row) → Known u rows → standin
 
 -- the lots of units of a closed book are fit to be put in merit order
 abbrev pub OpenLotsAreOrderly : Type 0
-OpenLotsAreOrderly = (side : Side) (l : Ledger) → Numbered l.units → All OfClosed l.units → Orderly (open_lots side l)
+OpenLotsAreOrderly = (side : Side) (l : Ledger) → Numbered l.units → AllByRecursion OfClosed l.units → Orderly (open_lots side l)
 
 -- every unit's lots have left what is eligible of it
 abbrev pub EligibleIsLeft : Type 0
-EligibleIsLeft = (m : MarketModel) (l : Ledger) → Numbered l.units → All (λ u. Placed u (lot_stands l.rows (number u)) × Known u l.rows) l.units →
-    All (λ u. eligible_energy m l (number u) ≤ left_of (number u) (open_lots m.side l)) l.units
+EligibleIsLeft = (m : MarketModel) (l : Ledger) → Numbered l.units → AllByRecursion (λ u. Placed u (lot_stands l.rows (number u)) × Known u l.rows) l.units →
+    AllByRecursion (λ u. eligible_energy m l (number u) ≤ left_of (number u) (open_lots m.side l)) l.units
 
 -- the same standing figures give the same lots with the same remainders, and the same eligible energy
 pub record AlikeToChoose (m : MarketModel) (k l : Ledger) : Type 0 where
-  pub lots_there : All (λ r. In r (open_lots m.side l)) (open_lots m.side k)
-  pub lots_back : All (λ r. In r (open_lots m.side k)) (open_lots m.side l)
+  pub lots_there : AllByRecursion (λ r. In r (open_lots m.side l)) (open_lots m.side k)
+  pub lots_back : AllByRecursion (λ r. In r (open_lots m.side k)) (open_lots m.side l)
   pub eligible : (n : ℕ) → eligible_energy m k n ≡ eligible_energy m l n
 
 abbrev pub SameStandingChoosesAlike : Type 0
 SameStandingChoosesAlike = (m : MarketModel) (k l : Ledger) → Numbered l.units →
-    All (λ u. Known u k.rows) k.units → All (λ u. Known u l.rows) l.units → SameStanding k l → AlikeToChoose m k l
+    AllByRecursion (λ u. Known u k.rows) k.units → AllByRecursion (λ u. Known u l.rows) l.units → SameStanding k l → AlikeToChoose m k l
 
 -- ---- what holds of every ledger that calls lead to
 abbrev pub InvariantOfEveryHistory : Type 0

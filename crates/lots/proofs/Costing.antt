@@ -1,7 +1,7 @@
 -- The lots of one unit and one side come in rising cost.
 use Rattle.std.proofs.Common.{◌≡◌, ℕ, ◌+◌, ◌-◌, ◌<◌, ◌≤◌, true, List, [], ◌∷◌, map, reverse, ◌≤ℤ◌, ◌<ℤ◌, arith}
 use borrow.Author.Differences.{ints}
-use Rattle.std.specs.List.{AllByRecursion as All}
+use Rattle.std.specs.List.{AllByRecursion}
 use Rattle.std.proofs.ByRecursion.{All-weaker, All-map}
 use Rattle.std.proofs.lemmas.Bool.{ltb-true}
 use Rattle.units.specs.declared.pair.Pair.{Pair}
@@ -18,7 +18,7 @@ use Rattle.lots.proofs.Lists.{all_of, all_zip, all_reverse, pairwise_weaker, pai
 abbrev Below : Span → Span → Type 0
 Below s t = (s.top ≤ t.bottom) × (s.price <ℤ t.price)
 
-above_all : (s : Span) (i b : ℕ) (ps : List Pair) → s.top ≤ b → All (λ c. s.price <ℤ c) (map (λ p. p.price) ps) → All (Below s) (stacked i b ps)
+above_all : (s : Span) (i b : ℕ) (ps : List Pair) → s.top ≤ b → AllByRecursion (λ c. s.price <ℤ c) (map (λ p. p.price) ps) → AllByRecursion (Below s) (stacked i b ps)
 above_all s i b [] h r = tt
 above_all s i b (p ∷ ps) h r = ((h, r.0), above_all s (i + 1) (b + p.quantity) ps (omega arith) r.1)
 
@@ -30,19 +30,19 @@ stacked_below i b (p ∷ ps) r = (above_all (span i b p) (i + 1) (b + p.quantity
 abbrev Level : Span → Span → Type 0
 Level t u = u.bottom < t.top → u.price ≤ℤ t.price
 
-levels : (ts : List Span) → Pairwise Below ts → All (λ t. All (Level t) ts) ts
+levels : (ts : List Span) → Pairwise Below ts → AllByRecursion (λ t. AllByRecursion (Level t) ts) ts
 levels [] h = tt
 levels (x ∷ xs) h =
     let here : Level x x = λ k. omega (arith, ints) in
-    let later : All (Level x) xs = All-weaker (Below x) (Level x) (λ t b k. absurd (omega (arith, b.0))) xs h.0 in
-    let back : All (λ t. Level t x) xs = All-weaker (Below x) (λ t. Level t x) (λ t b k. omega (arith, ints, b.1)) xs h.0 in
-    ((here, later), all_zip (λ t. Level t x) (λ t. All (Level t) xs) xs back (levels xs h.1))
+    let later : AllByRecursion (Level x) xs = All-weaker (Below x) (Level x) (λ t b k. absurd (omega (arith, b.0))) xs h.0 in
+    let back : AllByRecursion (λ t. Level t x) xs = All-weaker (Below x) (λ t. Level t x) (λ t b k. omega (arith, ints, b.1)) xs h.0 in
+    ((here, later), all_zip (λ t. Level t x) (λ t. AllByRecursion (Level t) xs) xs back (levels xs h.1))
 
 -- the same over the stack turned round
-levels_turned : (ts : List Span) → Pairwise Below ts → All (λ t. All (Level t) (reverse ts)) (reverse ts)
+levels_turned : (ts : List Span) → Pairwise Below ts → AllByRecursion (λ t. AllByRecursion (Level t) (reverse ts)) (reverse ts)
 levels_turned ts h =
-    all_reverse (λ t. All (Level t) (reverse ts)) ts
-    (All-weaker (λ t. All (Level t) ts) (λ t. All (Level t) (reverse ts)) (λ t a. all_reverse (Level t) ts a) ts (levels ts h))
+    all_reverse (λ t. AllByRecursion (Level t) (reverse ts)) ts
+    (All-weaker (λ t. AllByRecursion (Level t) ts) (λ t. AllByRecursion (Level t) (reverse ts)) (λ t a. all_reverse (Level t) ts a) ts (levels ts h))
 
 -- of two lots with megawatts, the later costs more
 abbrev Dearer : LotFigures → LotFigures → Type 0
@@ -71,9 +71,9 @@ rise Band n ss h =
     (all_of (λ s. Pairwise Dearer (map (band_lot n s) rs))
     (λ s. pairwise_map Dearer (band_lot n s) rs
     (pairwise_weaker (λ t u. Below u t) (λ t u. Dearer (band_lot n s t) (band_lot n s u)) (λ t u b x y. omega (arith, ints, b.1)) rs (pairwise_reverse Below ss h))) ss)
-    (pairwise_weaker Below (λ s s'. All (λ a. All (Dearer a) (map (band_lot n s') rs)) (map (band_lot n s) rs))
-    (λ s s' b. All-map (λ a. All (Dearer a) (map (band_lot n s') rs)) (band_lot n s) rs
-    (All-weaker (λ t. All (Level t) rs) (λ t. All (Dearer (band_lot n s t)) (map (band_lot n s') rs))
+    (pairwise_weaker Below (λ s s'. AllByRecursion (λ a. AllByRecursion (Dearer a) (map (band_lot n s') rs)) (map (band_lot n s) rs))
+    (λ s s' b. All-map (λ a. AllByRecursion (Dearer a) (map (band_lot n s') rs)) (band_lot n s) rs
+    (All-weaker (λ t. AllByRecursion (Level t) rs) (λ t. AllByRecursion (Dearer (band_lot n s t)) (map (band_lot n s') rs))
     (λ t ls. All-map (Dearer (band_lot n s t)) (band_lot n s') rs (All-weaker (Level t) (λ t'. Dearer (band_lot n s t) (band_lot n s' t')) (λ t' l. steps n s s' t t' b l) rs ls))
     rs (levels_turned ss h)))
     ss h)

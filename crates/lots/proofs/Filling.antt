@@ -1,6 +1,6 @@
 -- The steps of the loops that stack pairs and that list lots.
 use Rattle.std.proofs.Common.{◌≡◌, ℕ, ◌+◌, ◌-◌, ◌<◌, ◌≤◌, Bool, true, false, cond, ltb, List, [], ◌∷◌, ◌++◌, map, reverse, length, get_or, take, drop, set, ℤ, pos, filter, sym, refl, ap, ◌∙◌, arith}
-use Rattle.std.specs.List.{flat_map, AllByRecursion as All}
+use Rattle.std.specs.List.{flat_map, AllByRecursion}
 use Rattle.std.proofs.lemmas.List.{append_assoc, append-nil, map_push, drop_more, drop_all, take_more, take_more_set, take_all, length-take, length-set, reverse-append}
 use Rattle.std.proofs.lemmas.List.Elements.{filter-append}
 use Rattle.std.proofs.lemmas.Bool.{cond-false, le-ltb}
@@ -53,7 +53,7 @@ stacking_all {ps} {ss} {i} {bottom} {number} k h =
 abbrev pub Priced : Span → Type 0
 Priced s = price_in_range s.price ≡ true
 
-pub stacked_priced : (i b : ℕ) (ps : List Pair) → All (λ p. price_in_range p.price ≡ true) ps → All Priced (stacked i b ps)
+pub stacked_priced : (i b : ℕ) (ps : List Pair) → AllByRecursion (λ p. price_in_range p.price ≡ true) ps → AllByRecursion Priced (stacked i b ps)
 stacked_priced i b [] h = tt
 stacked_priced i b (p ∷ ps) h = (h.0, stacked_priced (i + 1) (b + p.quantity) ps h.1)
 

@@ -2,7 +2,7 @@
 use Rattle.std.proofs.Common.{◌≡◌, ◌+◌, ◌≤◌, true, List, [], ◌∷◌, map, ℤ, ◌<ℤ◌, ap, ◌∙◌, arith}
 use lib.Signed.{lt_z}
 use borrow.Author.Differences.{ints}
-use Rattle.std.specs.List.{AllByRecursion as All}
+use Rattle.std.specs.List.{AllByRecursion}
 use Rattle.std.proofs.ByRecursion.{All-weaker}
 use Rattle.std.proofs.lemmas.Bool.{and_parts}
 use Rattle.std.proofs.lemmas.Bool.Decides.{nat_tests}
@@ -23,7 +23,7 @@ use Rattle.lots.proofs.Summing.{lots_sum}
 less : (a b : ℤ) → lt_z a b ≡ true → a <ℤ b
 less a b h = grind (arith, ints)
 
-less_on : (a b : ℤ) (cs : List ℤ) → a <ℤ b → All (λ c. b <ℤ c) cs → All (λ c. a <ℤ c) cs
+less_on : (a b : ℤ) (cs : List ℤ) → a <ℤ b → AllByRecursion (λ c. b <ℤ c) cs → AllByRecursion (λ c. a <ℤ c) cs
 less_on a b cs h k = All-weaker (λ c. b <ℤ c) (λ c. a <ℤ c) (λ c j. omega (arith, ints)) cs k
 
 pub rises_throughout : (ps : List Pair) → rises ps ≡ true → Rising ps
@@ -35,7 +35,7 @@ rises_throughout (p ∷ q ∷ ps) h =
     let l = less p.price q.price both.0 in
     ((l, less_on p.price q.price (map (λ r. r.price) ps) l ih.0), ih)
 
-pub priced_all : (ps : List Pair) → prices_in_range ps ≡ true → All (λ p. price_in_range p.price ≡ true) ps
+pub priced_all : (ps : List Pair) → prices_in_range ps ≡ true → AllByRecursion (λ p. price_in_range p.price ≡ true) ps
 priced_all [] h = tt
 priced_all (p ∷ ps) h =
     let both = and_parts (price_in_range p.price) (prices_in_range ps) h in

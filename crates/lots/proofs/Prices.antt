@@ -1,6 +1,6 @@
 -- A lot's cost is the price of its megawatts.
 use Rattle.std.proofs.Common.{◌≡◌, ℕ, ◌+◌, ◌-◌, ◌<◌, ◌≤◌, ltb, List, [], ◌∷◌, ℤ, ◌-ℤ◌, neg_ℤ, sym, ap, ◌∙◌, arith}
-use Rattle.std.specs.List.{AllByRecursion as All}
+use Rattle.std.specs.List.{AllByRecursion}
 use Rattle.std.proofs.ByRecursion.{All-weaker}
 use Rattle.std.proofs.lemmas.Bool.{cond-true, cond-false, lt-ltb, le-ltb}
 use Rattle.units.specs.declared.pair.Pair.{Pair}
@@ -15,11 +15,11 @@ use Rattle.lots.proofs.Lists.{all_zip}
 abbrev PricedBy : (ℕ → ℤ) → Span → Type 0
 PricedBy price s = (l : ℕ) → s.bottom ≤ l → l < s.top → price l ≡ s.price
 
-from_bottom : (i b : ℕ) (ps : List Pair) → All (λ s. b ≤ s.bottom) (stacked i b ps)
+from_bottom : (i b : ℕ) (ps : List Pair) → AllByRecursion (λ s. b ≤ s.bottom) (stacked i b ps)
 from_bottom i b [] = tt
 from_bottom i b (p ∷ ps) = (omega arith, All-weaker (λ s. b + p.quantity ≤ s.bottom) (λ s. b ≤ s.bottom) (λ s h. omega arith) (stacked (i + 1) (b + p.quantity) ps) (from_bottom (i + 1) (b + p.quantity) ps))
 
-priced : (i b : ℕ) (ps : List Pair) → All (PricedBy (λ l. price_at ps (l - b))) (stacked i b ps)
+priced : (i b : ℕ) (ps : List Pair) → AllByRecursion (PricedBy (λ l. price_at ps (l - b))) (stacked i b ps)
 priced i b [] = tt
 priced i b (p ∷ ps) =
     let q = p.quantity in
@@ -32,7 +32,7 @@ priced i b (p ∷ ps) =
           later (all_zip (PricedBy (λ l. price_at ps (l - (b + q)))) (λ s. b + q ≤ s.bottom) later (priced (i + 1) (b + q) ps) (from_bottom (i + 1) (b + q) ps)),
     )
 
-priced_stack : (ps : List Pair) → All (PricedBy (price_at ps)) (stack ps)
+priced_stack : (ps : List Pair) → AllByRecursion (PricedBy (price_at ps)) (stack ps)
 priced_stack ps = All-weaker (PricedBy (λ l. price_at ps (l - 0))) (PricedBy (price_at ps)) (λ s f l h k. let e : l ≡ l - 0 = omega arith in ap (price_at ps) e ∙ f l h k) (stack ps) (priced 1 0 ps)
 
 -- the price of the k-th megawatt above, or below, is that of the span in which it lies
@@ -49,7 +49,7 @@ costs_are_prices n ps =
     record {
       up = All-weaker by (λ s. (k : ℕ) → AboveIn n s k → (up_lot n s).cost ≡ price_above ps n k) (λ s f k a. above_is ps n s f k a) (stack ps) all;
       down = All-weaker by (λ t. (k : ℕ) → BelowIn n t k → (down_lot n t).cost ≡ neg_ℤ (price_below ps n k)) (λ t f k b. ap neg_ℤ (below_is ps n t f k b)) (stack ps) all;
-      band = All-weaker by (λ s. All (λ t. (k : ℕ) → AboveIn n s k → BelowIn n t k → (band_lot n s t).cost ≡ price_above ps n k -ℤ price_below ps n k) (stack ps))
+      band = All-weaker by (λ s. AllByRecursion (λ t. (k : ℕ) → AboveIn n s k → BelowIn n t k → (band_lot n s t).cost ≡ price_above ps n k -ℤ price_below ps n k) (stack ps))
           (λ s f. All-weaker by (λ t. (k : ℕ) → AboveIn n s k → BelowIn n t k → (band_lot n s t).cost ≡ price_above ps n k -ℤ price_below ps n k)
           (λ t g k a b. let x = above_is ps n s f k a in let y = below_is ps n t g k b in rw (x, y)) (stack ps) all) (stack ps) all;
     }

@@ -1,6 +1,6 @@
 -- What stands of the lots of a unit, and where that leaves the unit.
 use Rattle.std.specs.Prelude.{◌≡◌, ℕ, ◌+◌, ◌-◌, ◌%◌, ◌≤◌, min, true, length}
-use Rattle.std.specs.List.{AllByRecursion as All}
+use Rattle.std.specs.List.{AllByRecursion}
 use Rattle.units.specs.declared.figures.Figures.{Figures}
 use Rattle.units.specs.declared.side.Side.{Side}
 use Rattle.units.specs.declared.side.Side.TheVariants.{Up, Down, Band}
@@ -73,11 +73,11 @@ pub record OfClosed (u : UnitState) : Type 0 where
   pub some_pairs : 1 ≤ length u.offer
   pub few_pairs : length u.offer ≤ 5
   pub rising : Rising u.offer
-  pub priced : All (λ p. price_in_range p.price ≡ true) u.offer
+  pub priced : AllByRecursion (λ p. price_in_range p.price ≡ true) u.offer
   pub sums : summed u.offer ≡ u.figures.installed
 
 -- a unit of a closed book, between floor and availability, of which no lot has more standing than its size
 pub record Placed (u : UnitState) (st : Stands) : Type 0 where
   pub closed : OfClosed u
-  pub fits : (side : Side) → All (λ l. stands_of st l ≤ l.size) (lots side u)
+  pub fits : (side : Side) → AllByRecursion (λ l. stands_of st l ≤ l.size) (lots side u)
   pub between : Between u (standing u st)

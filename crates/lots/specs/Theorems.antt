@@ -1,6 +1,6 @@
 -- What is proved of lots.
 use Rattle.std.specs.Prelude.{◌≡◌, ℕ, ◌+◌, ◌-◌, ◌<◌, ◌≤◌, min, max, List, ◌-ℤ◌, neg_ℤ, ◌<ℤ◌}
-use Rattle.std.specs.List.{AllByRecursion as All}
+use Rattle.std.specs.List.{AllByRecursion}
 use Rattle.units.specs.declared.pair.Pair.{Pair}
 use Rattle.units.specs.declared.side.Side.{Side}
 use Rattle.units.specs.declared.side.Side.TheVariants.{Up, Down, Band}
@@ -59,9 +59,9 @@ LotsAreRuns = (n k : ℕ) → Runs n k
 
 -- a lot's cost is the price of each of its megawatts: above, below with the sign turned, for band that above less that below
 pub record Costs (n : ℕ) (ps : List Pair) : Type 0 where
-  pub up : All (λ s. (k : ℕ) → AboveIn n s k → (up_lot n s).cost ≡ price_above ps n k) (stack ps)
-  pub down : All (λ t. (k : ℕ) → BelowIn n t k → (down_lot n t).cost ≡ neg_ℤ (price_below ps n k)) (stack ps)
-  pub band : All (λ s. All (λ t. (k : ℕ) → AboveIn n s k → BelowIn n t k → (band_lot n s t).cost ≡ price_above ps n k -ℤ price_below ps n k) (stack ps)) (stack ps)
+  pub up : AllByRecursion (λ s. (k : ℕ) → AboveIn n s k → (up_lot n s).cost ≡ price_above ps n k) (stack ps)
+  pub down : AllByRecursion (λ t. (k : ℕ) → BelowIn n t k → (down_lot n t).cost ≡ neg_ℤ (price_below ps n k)) (stack ps)
+  pub band : AllByRecursion (λ s. AllByRecursion (λ t. (k : ℕ) → AboveIn n s k → BelowIn n t k → (band_lot n s t).cost ≡ price_above ps n k -ℤ price_below ps n k) (stack ps)) (stack ps)
 
 abbrev pub CostsArePrices : Type 0
 CostsArePrices = (n : ℕ) (ps : List Pair) → Costs n ps

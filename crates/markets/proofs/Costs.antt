@@ -3,7 +3,7 @@
 use Rattle.std.proofs.Common.{◌≡◌, ℕ, zero, suc, ◌+◌, ◌-◌, ◌*◌, ◌≤◌, true, false, cond, List, [], ◌∷◌, ℤ, pos, negsuc, ◌+ℤ◌, ◌≤ℤ◌, refl, ap, ◌∙◌, mul-zero, mul-one, mul-add, arith}
 use lib.Signed.{le_z}
 use borrow.Author.Differences.{ints, up, down, le-true, le-false}
-use Rattle.std.specs.List.{AllByRecursion as All}
+use Rattle.std.specs.List.{AllByRecursion}
 use Rattle.std.proofs.ByRecursion.{All-weaker}
 use Rattle.std.proofs.lemmas.Bool.{cond_both}
 use Rattle.lots.specs.Sums.{sum_of}
@@ -40,7 +40,7 @@ weighed_more c d e (l ∷ ls) (x ∷ xs) =
     omega (arith, one, weighed_more c d e ls xs)
 
 -- ---- below all costs
-weighed_none : (c : ℤ) (ls : List Remaining) → All (λ l. c ≤ℤ l.cost) ls → (xs : List ℕ) → weighed c ls xs ≡ 0
+weighed_none : (c : ℤ) (ls : List Remaining) → AllByRecursion (λ l. c ≤ℤ l.cost) ls → (xs : List ℕ) → weighed c ls xs ≡ 0
 weighed_none c [] low xs = refl
 weighed_none c (l ∷ ls) low [] = refl
 weighed_none c (l ∷ ls) low (x ∷ xs) =
@@ -49,7 +49,7 @@ weighed_none c (l ∷ ls) low (x ∷ xs) =
 
 -- ---- where every front of xs holds as much as that of ys
 module _ (ls : List Remaining) (xs ys : List ℕ) (fronts : (c : ℤ) → front c ls ys ≤ front c ls xs) where
-  weighed_ahead : (c : ℤ) → All (λ l. c ≤ℤ l.cost) ls → (n : ℕ) → weighed (c +ℤ pos n) ls ys ≤ weighed (c +ℤ pos n) ls xs
+  weighed_ahead : (c : ℤ) → AllByRecursion (λ l. c ≤ℤ l.cost) ls → (n : ℕ) → weighed (c +ℤ pos n) ls ys ≤ weighed (c +ℤ pos n) ls xs
   weighed_ahead c low zero =
       let same : c +ℤ pos 0 ≡ c = omega (arith, ints) in
       rw same (omega (arith, weighed_none c ls low ys))
@@ -66,7 +66,7 @@ Under b l = (up l.cost ≤ b) × (down l.cost ≤ b)
 bound : List Remaining → ℕ
 bound ls = sum_of (λ l. up l.cost + down l.cost) ls
 
-bounded : (ls : List Remaining) → All (Under (bound ls)) ls
+bounded : (ls : List Remaining) → AllByRecursion (Under (bound ls)) ls
 unfolding bound
 bounded [] = tt
 bounded (l ∷ ls) = ((omega arith, omega arith), All-weaker (Under (bound ls)) (Under (bound (l ∷ ls))) (λ m h. (omega arith, omega arith)) ls (bounded ls))
@@ -74,7 +74,7 @@ bounded (l ∷ ls) = ((omega arith, omega arith), All-weaker (Under (bound ls)) 
 multiplied : (x g u d b : ℕ) → g + u ≡ b + d → x * g + x * u ≡ b * x + x * d
 multiplied x g u d b h = omega (arith, ap (λ n. x * n) h)
 
-weighed_all : (b : ℕ) (ls : List Remaining) → All (Under b) ls → (xs : List ℕ) → Within ls xs →
+weighed_all : (b : ℕ) (ls : List Remaining) → AllByRecursion (Under b) ls → (xs : List ℕ) → Within ls xs →
     weighed (pos b) ls xs + up (cost_of ls xs) ≡ b * total xs + down (cost_of ls xs)
 weighed_all b [] high [] w = omega arith
 weighed_all b [] high (x ∷ xs) w = absurd w
@@ -90,7 +90,7 @@ full_fronts_cost_least ls eligible xs ys px full py same =
     let b = bound ls in
     let c = negsuc b in
     let fronts : (c : ℤ) → front c ls ys ≤ front c ls xs = full ys py same in
-    let low : All (λ l. c ≤ℤ l.cost) ls = All-weaker (Under b) (λ l. c ≤ℤ l.cost) (λ l h. omega (arith, ints)) ls (bounded ls) in
+    let low : AllByRecursion (λ l. c ≤ℤ l.cost) ls = All-weaker (Under b) (λ l. c ≤ℤ l.cost) (λ l h. omega (arith, ints)) ls (bounded ls) in
     let top : c +ℤ pos (suc b + b) ≡ pos b = omega (arith, ints) in
     let ahead : weighed (pos b) ls ys ≤ weighed (pos b) ls xs = rw top at (weighed_ahead ls xs ys fronts c low (suc b + b)) in
     omega (arith, ints, ahead, weighed_all b ls (bounded ls) xs px.within_remainders, weighed_all b ls (bounded ls) ys py.within_remainders, ap (λ n. b * n) same)

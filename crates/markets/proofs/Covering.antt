@@ -1,6 +1,6 @@
 -- What the takes come to.
 use Rattle.std.proofs.Common.{◌≡◌, ℕ, ◌+◌, ◌-◌, ◌≤◌, min, ◌⊎◌, List, [], ◌∷◌, sym, refl, ap, ◌∙◌, inl, inr, arith}
-use Rattle.std.specs.List.{AllByRecursion as All}
+use Rattle.std.specs.List.{AllByRecursion}
 use Rattle.std.proofs.ByRecursion.{All-weaker}
 use Rattle.std.proofs.lemmas.Bool.{eq-eqb, ne_eqb, cases_eq}
 use Rattle.std.proofs.lemmas.Bool.Decides.{nat_tests}
@@ -46,7 +46,7 @@ could ls e u = min (e u) (left_of u ls)
 
 -- every lot's unit is among us
 abbrev Known : List ℕ → List Remaining → Type 0
-Known us ls = All (λ l. In (unit l) us) ls
+Known us ls = AllByRecursion (λ l. In (unit l) us) ls
 
 -- the arithmetic of one lot: k is taken of a lot that has r left, of a unit that has e left, of the demand d
 one_lot : (r e d k o s s' f g : ℕ) → k ≡ min r (min e d) → f ≡ min (e - k) o → g ≡ min e (r + o) → s' + g ≡ s + f → k + min (d - k) s' ≡ min d s
@@ -68,11 +68,11 @@ total-takes us once (l ∷ ls) (here, known) e d =
     rw ih (one_lot r (e u) d k o (sum_of (could (l ∷ ls) e) us) (sum_of (could ls e') us) (could ls e' u) (could (l ∷ ls) e u) refl f g on)
 
 -- where every unit's lots have left what is eligible of it, the units could give all that is eligible
-could_all : (ls : List Remaining) (e : ℕ → ℕ) (us : List ℕ) → All (λ u. e u ≤ left_of u ls) us → sum_of (could ls e) us ≡ sum_of e us
+could_all : (ls : List Remaining) (e : ℕ → ℕ) (us : List ℕ) → AllByRecursion (λ u. e u ≤ left_of u ls) us → sum_of (could ls e) us ≡ sum_of e us
 could_all ls e [] h = refl
 could_all ls e (u ∷ us) (h, hs) = omega (arith, could_all ls e us hs)
 
-pub coverage : (us : List ℕ) (ls : List Remaining) (e : ℕ → ℕ) (d : ℕ) → UnitsOf us ls → All (λ u. e u ≤ left_of u ls) us → total (takes ls e d) ≡ min d (sum_of e us)
+pub coverage : (us : List ℕ) (ls : List Remaining) (e : ℕ → ℕ) (d : ℕ) → UnitsOf us ls → AllByRecursion (λ u. e u ≤ left_of u ls) us → total (takes ls e d) ≡ min d (sum_of e us)
 coverage us ls e d units h = total-takes us units.once ls units.known e d ∙ ap (min d) (could_all ls e us h)
 
 pub total_takes_le : (ls : List Remaining) (e : ℕ → ℕ) (d : ℕ) → total (takes ls e d) ≤ d
@@ -111,7 +111,7 @@ total_by_units us once (l ∷ ls) known (y ∷ ys) w =
     let ih = total_by_units us once ls known.1 ys w.1 in
     omega (arith, ih, g, sums_on F G u same us once known.0)
 
-among? : (u : ℕ) (us : List ℕ) → In u us ⊎ All (λ v. u ≡ v → ⊥) us
+among? : (u : ℕ) (us : List ℕ) → In u us ⊎ AllByRecursion (λ v. u ≡ v → ⊥) us
 among? u [] = inr tt
 among? u (v ∷ vs) = elim (cases_eq u v) [
   | inl e ↦ inl (inl e)

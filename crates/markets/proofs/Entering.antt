@@ -1,7 +1,7 @@
 -- A unit put after the others, with its lots.
 use Rattle.std.proofs.Common.{◌≡◌, ℕ, zero, suc, ◌+◌, ◌-◌, ◌*◌, ◌<◌, ◌≤◌, true, ◌&&◌, ltb, leb, List, [], ◌∷◌, ◌++◌, length, take, drop, set, sym, refl, ap, ◌∙◌, ap₂, arith}
 use lib.Seq.{take-append_seam, drop-append_seam}
-use Rattle.std.specs.List.{AllByRecursion as All}
+use Rattle.std.specs.List.{AllByRecursion}
 use Rattle.std.proofs.ByRecursion.{All-take}
 use Rattle.std.proofs.lemmas.List.{take-append-drop, take-append-le, drop-append-le, take_more_set, length-take, length-drop}
 use Rattle.std.proofs.lemmas.Bool.Decides.{nat_tests}
@@ -55,7 +55,7 @@ entered-lots cs new = take (25 * cs.count) cs.lots ++ (new ++ drop (25 * cs.coun
 
 -- what G gives for each unit and its lots
 module _ {L Y : Type 0} (G : Candidate → List (Left L) → Y) where
-  each_kept : (T ys : List (Left L)) (start p : ℕ) (cs : List Candidate) → start ≤ length T → All (λ c. c.count ≤ 25) cs → 25 * (p + length cs) ≤ start →
+  each_kept : (T ys : List (Left L)) (start p : ℕ) (cs : List Candidate) → start ≤ length T → AllByRecursion (λ c. c.count ≤ 25) cs → 25 * (p + length cs) ≤ start →
       each_from (λ q c. G c (own_lots (take start T ++ ys) q c)) p cs ≡ each_from (λ q c. G c (own_lots T q c)) p cs
   each_kept T ys start p [] long few h = refl
   each_kept T ys start p (c ∷ cs) long few h =

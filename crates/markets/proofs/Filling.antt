@@ -1,6 +1,6 @@
 -- Filling a demand turn by turn.
 use Rattle.std.proofs.Common.{◌≡◌, ℕ, ◌+◌, ◌-◌, ◌*◌, ◌≤◌, Bool, true, false, cond, ltb, List, [], ◌∷◌, ◌++◌, map, length, sym, refl, ap, ◌∙◌, append_assoc, arith}
-use Rattle.std.specs.List.{AllByRecursion as All}
+use Rattle.std.specs.List.{AllByRecursion}
 use Rattle.std.proofs.ByRecursion.{All-take}
 use Rattle.std.proofs.lemmas.List.{append-nil, map-append, length-append, length-map, length-take, length-drop}
 use Rattle.std.proofs.lemmas.Bool.{cond_both, ltb-false}
@@ -25,7 +25,7 @@ use Rattle.markets.proofs.Tables.{all_few}
 queue_few : {L : Type 0} (meant : L → LotFigures) (T : List (Left L)) (p : ℕ) (c : Candidate) → c.count ≤ 25 → length (queue meant T p c) ≤ 25
 queue_few meant T p c h = simp (length-map, length-take, length-drop) (omega arith)
 
-queues_few : {L : Type 0} (meant : L → LotFigures) (T : List (Left L)) (p : ℕ) (cs : List Candidate) → All (λ c. c.count ≤ 25) cs → length (flat (each_from (queue meant T) p cs)) ≤ 25 * length cs
+queues_few : {L : Type 0} (meant : L → LotFigures) (T : List (Left L)) (p : ℕ) (cs : List Candidate) → AllByRecursion (λ c. c.count ≤ 25) cs → length (flat (each_from (queue meant T) p cs)) ≤ 25 * length cs
 queues_few meant T p [] h = omega arith
 queues_few meant T p (c ∷ cs) h =
     omega (arith, length-append (queue meant T p c) (flat (each_from (queue meant T) (p + 1) cs)), queue_few meant T p c h.0, queues_few meant T (p + 1) cs h.1)

@@ -2,7 +2,7 @@
 use Rattle.std.proofs.Common.{◌≡◌, ℕ, zero, suc, ◌-◌, ◌≤◌, true, false, List, [], ◌∷◌, take, ℤ, ◌≤ℤ◌, refl, ap, inl, inr, arith}
 use lib.Signed.{le_z}
 use borrow.Author.Differences.{ints}
-use Rattle.std.specs.List.{AllByRecursion as All}
+use Rattle.std.specs.List.{AllByRecursion}
 use Rattle.std.proofs.lemmas.Bool.{cases_Bool}
 use Rattle.lots.specs.Sums.{Pairwise}
 use Rattle.markets.specs.Remainders.{Remaining, unit}
@@ -45,12 +45,12 @@ ahead_of ls e d ys p h j =
 
 -- ---- a front by cost, where costs ascend
 -- nothing is taken below all costs
-front_none : (c : ℤ) (ls : List Remaining) → All (λ l. le_z l.cost c ≡ false) ls → (xs : List ℕ) → front c ls xs ≡ 0
+front_none : (c : ℤ) (ls : List Remaining) → AllByRecursion (λ l. le_z l.cost c ≡ false) ls → (xs : List ℕ) → front c ls xs ≡ 0
 front_none c [] h xs = refl
 front_none c (l ∷ ls) h [] = refl
 front_none c (l ∷ ls) h (x ∷ xs) = rw h.0 (omega (arith, front_none c ls h.1 xs))
 
-dearer : (c z : ℤ) → le_z z c ≡ false → (ls : List Remaining) → All (λ l. z ≤ℤ l.cost) ls → All (λ l. le_z l.cost c ≡ false) ls
+dearer : (c z : ℤ) → le_z z c ≡ false → (ls : List Remaining) → AllByRecursion (λ l. z ≤ℤ l.cost) ls → AllByRecursion (λ l. le_z l.cost c ≡ false) ls
 dearer c z h [] low = tt
 dearer c z h (l ∷ ls) low = (let k = low.0 in grind (arith, ints), dearer c z h ls low.1)
 

@@ -1,6 +1,6 @@
 -- Lists by their members: what holds of each two of them in any order, and lists in one strict order.
 use Rattle.std.proofs.Common.{◌≡◌, ℕ, zero, suc, ◌<◌, cond, eqb, List, [], ◌∷◌, ◌++◌, length, get_or, sym, refl, ◌∙◌, subst, ap₂, inl, inr, arith}
-use Rattle.std.specs.List.{swap, AllByRecursion as All}
+use Rattle.std.specs.List.{swap, AllByRecursion}
 use Rattle.std.specs.List.Sorted.{IsPermutation}
 use Rattle.std.proofs.lemmas.List.Edits.{swapped_from_swap, length-swap}
 use Rattle.std.proofs.ByRecursion.{All-weaker, All-get_or, All-from_get_or, all_shuffled}
@@ -11,17 +11,17 @@ use Rattle.lots.specs.Sums.{Pairwise}
 use Rattle.markets.specs.Remainders.{In}
 
 -- ---- members
-pub all_in : {X : Type 0} (xs : List X) → All (λ z. In z xs) xs
+pub all_in : {X : Type 0} (xs : List X) → AllByRecursion (λ z. In z xs) xs
 all_in [] = tt
 all_in (x ∷ xs) = (inl refl, All-weaker (λ z. In z xs) (λ z. In z (x ∷ xs)) (λ z m. inr m) xs (all_in xs))
 
-pub in_all : {X : Type 0} (P : X → Type 0) (z : X) (xs : List X) → In z xs → All P xs → P z
+pub in_all : {X : Type 0} (P : X → Type 0) (z : X) (xs : List X) → In z xs → AllByRecursion P xs → P z
 in_all P z [] m h = absurd m
 in_all P z (x ∷ xs) (inl e) h = subst P (sym e) h.0
 in_all P z (x ∷ xs) (inr m) h = in_all P z xs m h.1
 
 -- every member of ys is one of xs, whose order is changed
-pub in_shuffled : {X : Type 0} (xs ys : List X) → IsPermutation xs ys → All (λ z. In z xs) ys
+pub in_shuffled : {X : Type 0} (xs ys : List X) → IsPermutation xs ys → AllByRecursion (λ z. In z xs) ys
 in_shuffled xs ys s = all_shuffled (λ z. In z xs) xs ys s (all_in xs)
 
 -- a member put first
@@ -37,7 +37,7 @@ pub pairwise_weaker : {X : Type 0} (R S : X → X → Type 0) → ((a b : X) →
 pairwise_weaker R S f [] h = tt
 pairwise_weaker R S f (x ∷ xs) h = (All-weaker (R x) (S x) (f x) xs h.0, pairwise_weaker R S f xs h.1)
 
-pub all_both : {X : Type 0} (P Q : X → Type 0) (xs : List X) → All P xs → All Q xs → All (λ x. P x × Q x) xs
+pub all_both : {X : Type 0} (P Q : X → Type 0) (xs : List X) → AllByRecursion P xs → AllByRecursion Q xs → AllByRecursion (λ x. P x × Q x) xs
 all_both P Q [] p q = tt
 all_both P Q (x ∷ xs) p q = ((p.0, q.0), all_both P Q xs p.1 q.1)
 
@@ -105,17 +105,17 @@ module _ {X : Type 0} (R : X → X → Type 0) (back : (a b : X) → R a b → R
 
 -- ---- lists with the same members, in one strict order, are one list
 module _ {X : Type 0} (R : X → X → Type 0) (asym : (a b : X) → R a b → R b a → ⊥) where
-  same_heads : (x y : X) (xs ys : List X) → All (R x) xs → All (R y) ys → In x (y ∷ ys) → In y (x ∷ xs) → x ≡ y
+  same_heads : (x y : X) (xs ys : List X) → AllByRecursion (R x) xs → AllByRecursion (R y) ys → In x (y ∷ ys) → In y (x ∷ xs) → x ≡ y
   same_heads x y xs ys hx hy (inl e) k = e
   same_heads x y xs ys hx hy (inr m) (inl e) = sym e
   same_heads x y xs ys hx hy (inr m) (inr n) = absurd (asym x y (in_all (R x) y xs n hx) (in_all (R y) x ys m hy))
 
-  tails : (x y : X) (ys zs : List X) → x ≡ y → All (R x) zs → All (λ z. In z (y ∷ ys)) zs → All (λ z. In z ys) zs
+  tails : (x y : X) (ys zs : List X) → x ≡ y → AllByRecursion (R x) zs → AllByRecursion (λ z. In z (y ∷ ys)) zs → AllByRecursion (λ z. In z ys) zs
   tails x y ys [] e h k = tt
   tails x y ys (z ∷ zs) e h (inl p, k) = let q : R z z = subst (λ w. R w z) (e ∙ sym p) h.0 in absurd (asym z z q q)
   tails x y ys (z ∷ zs) e h (inr m, k) = (m, tails x y ys zs e h.1 k)
 
-  pub same_members : (xs ys : List X) → Pairwise R xs → Pairwise R ys → All (λ z. In z ys) xs → All (λ z. In z xs) ys → xs ≡ ys
+  pub same_members : (xs ys : List X) → Pairwise R xs → Pairwise R ys → AllByRecursion (λ z. In z ys) xs → AllByRecursion (λ z. In z xs) ys → xs ≡ ys
   same_members [] [] px py hx hy = refl
   same_members [] (y ∷ ys) px py hx hy = absurd hy.0
   same_members (x ∷ xs) [] px py hx hy = absurd hx.0

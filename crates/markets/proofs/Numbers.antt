@@ -1,6 +1,6 @@
 -- Units with different numbers: the eligible energy of each, and one of them changed.
 use Rattle.std.proofs.Common.{◌≡◌, ℕ, zero, suc, ◌-◌, ◌<◌, cond, eqb, List, [], ◌∷◌, length, get_or, set, sym, refl, ap, ◌∙◌, subst, arith}
-use Rattle.std.specs.List.{AllByRecursion as All}
+use Rattle.std.specs.List.{AllByRecursion}
 use Rattle.std.proofs.ByRecursion.{All-get_or, All-set}
 use Rattle.std.proofs.lemmas.Bool.{eq-eqb, ne_eqb}
 use Rattle.std.proofs.lemmas.Bool.Decides.{nat_tests}
@@ -43,7 +43,7 @@ energy-used (x ∷ cs) (suc i) c c' k l e n g h u =
 
 pub numbered_set : (cs : List Candidate) (i : ℕ) (c c' : Candidate) → i < length cs → AtPlace cs i c → number c' ≡ number c → Numbered cs → Numbered (set cs i c')
 numbered_set [] i c c' l e n h = absurd (omega arith)
-numbered_set (x ∷ cs) zero c c' l e n h = (subst (λ m. All (λ b. m ≡ number b → ⊥) cs) (ap number (e c) ∙ sym n) h.0, h.1)
+numbered_set (x ∷ cs) zero c c' l e n h = (subst (λ m. AllByRecursion (λ b. m ≡ number b → ⊥) cs) (ap number (e c) ∙ sym n) h.0, h.1)
 numbered_set (x ∷ cs) (suc i) c c' l e n h =
     let a = subst (λ w. number x ≡ number w → ⊥) (e c) (All-get_or (λ b. number x ≡ number b → ⊥) cs i c (omega arith) h.0) in
     (All-set (λ b. number x ≡ number b → ⊥) cs i c' (λ z. a (z ∙ n)) h.0, numbered_set cs i c c' (omega arith) e n h.1)

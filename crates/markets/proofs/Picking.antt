@@ -1,7 +1,7 @@
 -- The choice lot by lot.
 use Rattle.std.proofs.Common.{◌≡◌, ℕ, ◌-◌, ◌<◌, true, cond, ltb, List, [], ◌∷◌, refl, ap, ◌∙◌, arith}
 use mathlib.Core.Path.{fun_ext}
-use Rattle.std.specs.List.{AllByRecursion as All}
+use Rattle.std.specs.List.{AllByRecursion}
 use Rattle.std.specs.List.Sorted.{IsPermutation}
 use Rattle.std.proofs.lemmas.Bool.{lt-ltb, le-ltb, ltb-false, cond_both}
 use Rattle.std.proofs.lemmas.Bool.Decides.{nat_tests}
@@ -17,12 +17,12 @@ abbrev pub taking : Remaining → ℕ → Taken
 taking l x = record { lot = l; megawatts = x }
 
 -- ---- nothing is left to take
-takes_none_of : (ls : List Remaining) (e : ℕ → ℕ) (d : ℕ) → d ≡ 0 → All (λ x. x ≡ 0) (takes ls e d)
+takes_none_of : (ls : List Remaining) (e : ℕ → ℕ) (d : ℕ) → d ≡ 0 → AllByRecursion (λ x. x ≡ 0) (takes ls e d)
 takes_none_of [] e d z = tt
 takes_none_of (l ∷ ls) e d z = (omega arith, takes_none_of ls (used e (unit l) (part l e d)) (d - part l e d) (omega arith))
 
 -- for a demand of 0 nothing is taken of any lot
-pub takes_none : (ls : List Remaining) (e : ℕ → ℕ) → All (λ x. x ≡ 0) (takes ls e 0)
+pub takes_none : (ls : List Remaining) (e : ℕ → ℕ) → AllByRecursion (λ x. x ≡ 0) (takes ls e 0)
 takes_none ls e = takes_none_of ls e 0 refl
 
 choice_none_of : (ls : List Remaining) (e : ℕ → ℕ) (d : ℕ) → d ≡ 0 → choice ls e d ≡ []
@@ -71,6 +71,6 @@ choice-total (l ∷ ls) e d =
 
 -- ---- one step from lots in any order: l goes before all the others
 pub choice_first : (rule : RuleModel) (ls : List Remaining) (l : Remaining) (rest : List Remaining) →
-    Orderly ls → IsPermutation ls (l ∷ rest) → All (λ m. before rule l m ≡ true) rest → (e : ℕ → ℕ) (d : ℕ) →
+    Orderly ls → IsPermutation ls (l ∷ rest) → AllByRecursion (λ m. before rule l m ≡ true) rest → (e : ℕ → ℕ) (d : ℕ) →
     choice (merit rule ls) e d ≡ cond (ltb 0 (part l e d)) (taking l (part l e d) ∷ choice-after l (merit rule rest) e d) (choice-after l (merit rule rest) e d)
 choice_first rule ls l rest o s first e d = ap (λ ms. choice ms e d) (merit_first rule ls l rest o s first)

@@ -1,7 +1,7 @@
 -- Queues of lots, each in rising cost: the first of their heads goes before all the others.
 use Rattle.std.proofs.Common.{◌≡◌, ℕ, zero, suc, ◌+◌, ◌<◌, true, false, List, [], ◌∷◌, ◌++◌, length, get_or, set, ◌<ℤ◌, Some, None, Option, sym, refl, ap, ◌∙◌, subst, ap₂, inl, inr, arith, below_more}
 use borrow.Author.Differences.{ints}
-use Rattle.std.specs.List.{flat_map, AllByRecursion as All}
+use Rattle.std.specs.List.{flat_map, AllByRecursion}
 use Rattle.std.specs.List.Sorted.{IsPermutation}
 use Rattle.std.proofs.ByRecursion.{All-append, All-weaker}
 use Rattle.std.proofs.lemmas.List.Sorted.{IsPermutation-refl, IsPermutation-cons, IsPermutation-trans}
@@ -25,7 +25,7 @@ pub no_head : {X : Type 0} (x : X) (xs : List X) → [] ≡ x ∷ xs → ⊥
 no_head x xs e = let z : ◌≡◌ {A = ℕ} 0 1 = ap length e ∙ cc in omega arith
 
 -- ---- parts of lists that are joined
-all_right : {X : Type 0} (P : X → Type 0) (xs ys : List X) → All P (xs ++ ys) → All P ys
+all_right : {X : Type 0} (P : X → Type 0) (xs ys : List X) → AllByRecursion P (xs ++ ys) → AllByRecursion P ys
 all_right P [] ys h = h
 all_right P (x ∷ xs) ys h = all_right P xs ys h.1
 
@@ -38,9 +38,9 @@ shuffled_after [] xs ys s = s
 shuffled_after (x ∷ q) xs ys s = IsPermutation-cons x (q ++ xs) (q ++ ys) (shuffled_after q xs ys s)
 
 -- the head of a queue is one of the lots
-head_in : {X : Type 0} (P : X → Type 0) (qs : List (List X)) (j : ℕ) (m : X) (ms : List X) → get_or qs j [] ≡ m ∷ ms → All P (flat qs) → P m
+head_in : {X : Type 0} (P : X → Type 0) (qs : List (List X)) (j : ℕ) (m : X) (ms : List X) → get_or qs j [] ≡ m ∷ ms → AllByRecursion P (flat qs) → P m
 head_in P [] j m ms e h = absurd (no_head m ms e)
-head_in P (q ∷ qs) zero m ms e h = (subst (λ w. All P (w ++ flat qs)) e h).0
+head_in P (q ∷ qs) zero m ms e h = (subst (λ w. AllByRecursion P (w ++ flat qs)) e h).0
 head_in P (q ∷ qs) (suc j) m ms e h = head_in P qs j m ms e (all_right P q (flat qs) h)
 
 -- what holds of each two lots holds of two heads
@@ -71,18 +71,18 @@ module _ (rule : RuleModel) (l : Remaining) where
   abbrev After : Remaining → Type 0
   After k = before rule l k ≡ true
 
-  behind_all : (q : List Remaining) → Behind rule l q → Rising q → All After q
+  behind_all : (q : List Remaining) → Behind rule l q → Rising q → AllByRecursion After q
   behind_all [] b r = tt
   behind_all (m ∷ ms) b r =
       let c = cheap rule l m b in
       (b, All-weaker (λ k. m.cost <ℤ k.cost) After (λ k h. before_cheaper rule l k (omega (arith, ints))) ms r.0)
 
-  all_behind : (qs : List (List Remaining)) → All Rising qs → ((j : ℕ) → j < length qs → Behind rule l (get_or qs j [])) → All After (flat qs)
+  all_behind : (qs : List (List Remaining)) → AllByRecursion Rising qs → ((j : ℕ) → j < length qs → Behind rule l (get_or qs j [])) → AllByRecursion After (flat qs)
   all_behind [] r h = tt
   all_behind (q ∷ qs) r h = All-append After q (flat qs) (behind_all q (h 0 (omega arith)) r.0) (all_behind qs r.1 (λ j k. h (suc j) (omega arith)))
 
-  pub flat_behind : (qs : List (List Remaining)) (i : ℕ) (ls : List Remaining) → get_or qs i [] ≡ l ∷ ls → All Rising qs →
-      ((j : ℕ) → j < length qs → (j ≡ i → ⊥) → Behind rule l (get_or qs j [])) → All After (flat (set qs i ls))
+  pub flat_behind : (qs : List (List Remaining)) (i : ℕ) (ls : List Remaining) → get_or qs i [] ≡ l ∷ ls → AllByRecursion Rising qs →
+      ((j : ℕ) → j < length qs → (j ≡ i → ⊥) → Behind rule l (get_or qs j [])) → AllByRecursion After (flat (set qs i ls))
   flat_behind [] i ls e r h = tt
   flat_behind (q ∷ qs) zero ls e r h =
       All-append After ls (flat qs) (All-weaker (λ k. l.cost <ℤ k.cost) After (λ k h. before_cheaper rule l k h) ls (subst Rising e r.0).0)

@@ -2,7 +2,7 @@
 use Rattle.std.proofs.Common.{◌≡◌, ℕ, Bool, true, false, not, ◌&&◌, ◌||◌, List, [], ◌∷◌, ℤ, ◌≤ℤ◌, ◌<ℤ◌, sym, refl, ap, ◌∙◌, arith}
 use lib.Signed.{lt_z, le_z}
 use borrow.Author.Differences.{ints}
-use Rattle.std.specs.List.{AllByRecursion as All}
+use Rattle.std.specs.List.{AllByRecursion}
 use Rattle.std.specs.List.Sorted.{IsPermutation}
 use Rattle.std.proofs.ByRecursion.{All-weaker, all_shuffled}
 use Rattle.std.proofs.lemmas.List.Sorted.{IsPermutation-refl, IsPermutation-sym, IsPermutation-cons, IsPermutation-swap, IsPermutation-trans}
@@ -41,7 +41,7 @@ rivals_back a b r = record { one = r.other; other = r.one; differ = differ_back 
 apart : (a b : Remaining) → Rivals a b → a.cost ≡ b.cost → Apart a.figures b.figures
 apart a b r e n = r.differ.two_costs n e
 
-rivals_of : (l : Remaining) (ls : List Remaining) → Accepted l.figures → All (λ m. Accepted m.figures) ls → All (Differ l) ls → All (Rivals l) ls
+rivals_of : (l : Remaining) (ls : List Remaining) → Accepted l.figures → AllByRecursion (λ m. Accepted m.figures) ls → AllByRecursion (Differ l) ls → AllByRecursion (Rivals l) ls
 rivals_of l [] a h d = tt
 rivals_of l (m ∷ ms) a h d = (record { one = a; other = h.0; differ = d.0 }, rivals_of l ms a h.1 d.1)
 
@@ -139,19 +139,19 @@ module _ (rule : RuleModel) where
   after_asym : (a b : Remaining) → After a b → After b a → ⊥
   after_asym a b p q = before_asym a b p.rivals p.goes q.goes
 
-  after_on : (l m : Remaining) (ks : List Remaining) → After l m → All (Rivals l) ks → All (After m) ks → All (After l) ks
+  after_on : (l m : Remaining) (ks : List Remaining) → After l m → AllByRecursion (Rivals l) ks → AllByRecursion (After m) ks → AllByRecursion (After l) ks
   after_on l m [] p r h = tt
   after_on l m (k ∷ ks) p r h =
       (record { goes = before_on l m k p.rivals h.0.rivals r.0 p.goes h.0.goes; rivals = r.0 }, after_on l m ks p r.1 h.1)
 
   -- what goes before m goes before all that m goes before
-  pub before_all : (l m : Remaining) (ks : List Remaining) → Orderly (l ∷ m ∷ ks) → before rule l m ≡ true → All (λ k. before rule m k ≡ true) ks → All (λ k. before rule l k ≡ true) ks
+  pub before_all : (l m : Remaining) (ks : List Remaining) → Orderly (l ∷ m ∷ ks) → before rule l m ≡ true → AllByRecursion (λ k. before rule m k ≡ true) ks → AllByRecursion (λ k. before rule l k ≡ true) ks
   before_all l m ks o p h =
       let r = rivals (l ∷ m ∷ ks) o in
-      let after : All (After m) ks = All-weaker (λ k. Before m k × Rivals m k) (After m) (λ k x. record { goes = x.0; rivals = x.1 }) ks (all_both (Before m) (Rivals m) ks h r.1.0) in
+      let after : AllByRecursion (After m) ks = All-weaker (λ k. Before m k × Rivals m k) (After m) (λ k x. record { goes = x.0; rivals = x.1 }) ks (all_both (Before m) (Rivals m) ks h r.1.0) in
       All-weaker (After l) (Before l) (λ k a. a.goes) ks (after_on l m ks (record { goes = p; rivals = r.0.0 }) r.0.1 after)
 
-  insert_after : (l : Remaining) (ms : List Remaining) → All (Rivals l) ms → Pairwise After ms → Pairwise After (insert rule l ms)
+  insert_after : (l : Remaining) (ms : List Remaining) → AllByRecursion (Rivals l) ms → Pairwise After ms → Pairwise After (insert rule l ms)
   insert_after l [] r h = (tt, tt)
   insert_after l (m ∷ ms) r h = cond_both (before rule l m) (l ∷ m ∷ ms) (m ∷ insert rule l ms) (Pairwise After)
       (λ p. let a : After l m = record { goes = p; rivals = r.0 } in ((a, after_on l m ms a r.1 h.0), h))
@@ -168,7 +168,7 @@ module _ (rule : RuleModel) where
   merit_ascends ls o = pairwise_weaker After Before (λ a b h. h.goes) (merit rule ls) (merit_after ls (rivals ls o))
 
   -- ---- it is one for all lists with the same lots
-  pub merit_members : (xs ys : List Remaining) → Orderly xs → Orderly ys → All (λ z. In z ys) xs → All (λ z. In z xs) ys → merit rule xs ≡ merit rule ys
+  pub merit_members : (xs ys : List Remaining) → Orderly xs → Orderly ys → AllByRecursion (λ z. In z ys) xs → AllByRecursion (λ z. In z xs) ys → merit rule xs ≡ merit rule ys
   merit_members xs ys ox oy hx hy =
       let MX = merit rule xs in
       let MY = merit rule ys in
@@ -188,7 +188,7 @@ module _ (rule : RuleModel) where
       same_members After after_asym M ms (merit_after ls (rivals ls o)) after (in_shuffled ms M (IsPermutation-sym M ms over)) (in_shuffled M ms over)
 
   -- a lot that goes before all the others stands first, and then come the others in merit order
-  pub merit_first : (ls : List Remaining) (l : Remaining) (rest : List Remaining) → Orderly ls → IsPermutation ls (l ∷ rest) → All (λ m. before rule l m ≡ true) rest →
+  pub merit_first : (ls : List Remaining) (l : Remaining) (rest : List Remaining) → Orderly ls → IsPermutation ls (l ∷ rest) → AllByRecursion (λ m. before rule l m ≡ true) rest →
       merit rule ls ≡ l ∷ merit rule rest
   merit_first ls l rest o s first =
       let M = merit rule rest in

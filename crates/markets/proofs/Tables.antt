@@ -2,7 +2,7 @@
 use Rattle.std.proofs.Common.{◌≡◌, ℕ, zero, suc, ◌+◌, ◌-◌, ◌*◌, ◌<◌, ◌≤◌, min, List, [], ◌∷◌, map, length, get_or, take, drop, set, replicate, sym, refl, ap, ◌∙◌, ap₂, arith}
 use mathlib.Core.Logic.{∥∥₁_elim}
 use native.Mathlib.Bridge.{le_prop}
-use Rattle.std.specs.List.{AllByRecursion as All}
+use Rattle.std.specs.List.{AllByRecursion}
 use Rattle.std.proofs.ByRecursion.{All-get_or, All-from_get_or}
 use Rattle.std.proofs.lemmas.List.{drop_more, get_or-take, length-map, length-take, length-drop}
 use Rattle.units.specs.declared.figures.Figures.{Figures}
@@ -104,13 +104,13 @@ same_read (x ∷ xs) (suc i) d e l = same_read xs i d e (omega arith)
 pub at_place : (us : List Candidate) (n i : ℕ) (d : Candidate) → i < n → n ≤ length us → AtPlace (take n us) i (get_or us i d)
 at_place us n i d h l e = get_or-take n us i e h ∙ same_read us i e d (omega arith)
 
-pub few_at : (us : List Candidate) (i : ℕ) (d : Candidate) → i < length us → ∥ All (λ c. c.count ≤ 25) us ∥₁ → (get_or us i d).count ≤ 25
+pub few_at : (us : List Candidate) (i : ℕ) (d : Candidate) → i < length us → ∥ AllByRecursion (λ c. c.count ≤ 25) us ∥₁ → (get_or us i d).count ≤ 25
 few_at us i d l h = ∥∥₁_elim h le_prop (λ a. All-get_or (λ c. c.count ≤ 25) us i d l a)
 
-pub all_few : (us : List Candidate) → ∥ All (λ c. c.count ≤ 25) us ∥₁ → All (λ c. c.count ≤ 25) us
+pub all_few : (us : List Candidate) → ∥ AllByRecursion (λ c. c.count ≤ 25) us ∥₁ → AllByRecursion (λ c. c.count ≤ 25) us
 all_few [] h = tt
 all_few (u ∷ us) h = All-from_get_or (λ c. c.count ≤ 25) (u ∷ us) u (λ i l. few_at (u ∷ us) i u l h)
 
-pub all_replicate : {X : Type 0} (P : X → Type 0) (n : ℕ) (x : X) → P x → All P (replicate n x)
+pub all_replicate : {X : Type 0} (P : X → Type 0) (n : ℕ) (x : X) → P x → AllByRecursion P (replicate n x)
 all_replicate P zero x h = tt
 all_replicate P (suc n) x h = (h, all_replicate P n x h)

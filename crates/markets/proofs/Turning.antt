@@ -1,6 +1,6 @@
 -- One turn of choosing, over the tables of the program.
 use Rattle.std.proofs.Common.{◌≡◌, ℕ, ◌-◌, ◌<◌, min, Bool, true, false, cond, ltb, List, [], ◌∷◌, map, length, get_or, set, sym, refl, ap, ◌∙◌, subst, ap₂, arith}
-use Rattle.std.specs.List.{AllByRecursion as All}
+use Rattle.std.specs.List.{AllByRecursion}
 use Rattle.std.specs.List.Sorted.{IsPermutation}
 use Rattle.std.proofs.ByRecursion.{All-get_or, All-set}
 use Rattle.std.proofs.lemmas.List.{length-take}
@@ -60,7 +60,7 @@ module _ {L : Type 0} (rule : RuleModel) (meant : L → LotFigures) (cs : Candid
   ones : f.figures ≡ c.figures
   ones = queue_figures meant cs.lots place c first rest own
 
-  behind : Sound meant cs → All (λ m. before rule first m ≡ true) (flat later)
+  behind : Sound meant cs → AllByRecursion (λ m. before rule first m ≡ true) (flat later)
   behind sound = flat_behind rule first qs place rest lead.stands.1 sound.rise
       (λ j l n. lead.leads sound.orderly j (omega (arith, each_long (queue meant cs.lots) 0 (units_in cs), length-take cs.count cs.units)) n)
 
@@ -87,7 +87,7 @@ module _ {L : Type 0} (rule : RuleModel) (meant : L → LotFigures) (cs : Candid
       sound_after : Sound meant cs'
       sound_after = record {
         orderly = subst (λ q. Orderly (flat q)) (sym now_queues) (orderly_tail first (flat later) (orderly_shuffled (flat qs) (first ∷ flat later) out sound.orderly));
-        rise = subst (All Rising) (sym now_queues) (All-set Rising qs place rest
+        rise = subst (AllByRecursion Rising) (sym now_queues) (All-set Rising qs place rest
             (subst Rising lead.stands.1 (All-get_or Rising qs place [] (omega (arith, each_long (queue meant cs.lots) 0 (units_in cs), inside)) sound.rise)).1 sound.rise);
         numbered = subst Numbered (sym now_units) (numbered_set (units_in cs) place c (moved_on c k) inside at refl sound.numbered);
       }

@@ -1,6 +1,6 @@
 -- The units of a selection with their lots, as the program holds them.
 use Rattle.std.specs.Prelude.{ℕ, ◌+◌, ◌-◌, ◌*◌, cond, List, [], ◌∷◌, map, take, drop, ℤ, ◌<ℤ◌, ◌==◌, ◌≢◌}
-use Rattle.std.specs.List.{flat_map, AllByRecursion as All}
+use Rattle.std.specs.List.{flat_map, AllByRecursion}
 use Rattle.units.specs.declared.figures.Figures.{Figures}
 use Rattle.lots.specs.Sums.{Pairwise}
 use Rattle.lots.specs.Lots.{LotFigures}
@@ -68,7 +68,7 @@ Numbered cs = Pairwise (λ a b. a.figures.number ≢ b.figures.number) cs
 -- what choosing may count on: lots of accepted units that differ, each unit's in rising cost, and units of different numbers
 pub record Sound {L : Type 0} (meant : L → LotFigures) (cs : Candidates L) : Type 0 where
   pub orderly : Orderly (waiting meant cs)
-  pub rise : All Rising (queues meant cs)
+  pub rise : AllByRecursion Rising (queues meant cs)
   pub numbered : Numbered (units_in cs)
 
 -- what a selection commits: a unit's lot by its pairs, the cost of a megawatt, and the megawatts

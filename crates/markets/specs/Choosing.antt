@@ -1,6 +1,6 @@
 -- What is proved of the merit order and of choosing.
 use Rattle.std.specs.Prelude.{◌≡◌, ℕ, ◌≤◌, min, true, List, ◌≤ℤ◌}
-use Rattle.std.specs.List.{AllByRecursion as All}
+use Rattle.std.specs.List.{AllByRecursion}
 use Rattle.std.specs.List.Sorted.{IsPermutation}
 use Rattle.units.specs.declared.figures.Figures.{Figures}
 use Rattle.lots.specs.Sums.{sum_of, Pairwise}
@@ -20,7 +20,7 @@ MeritAscends = (rule : RuleModel) (ls : List Remaining) → Orderly ls → Pairw
 -- coverage: where every unit's lots have left what is eligible of it, the choice comes to the lesser of the demand and all that is eligible
 abbrev pub ChoiceCovers : Type 0
 ChoiceCovers = (rule : RuleModel) (us : List ℕ) (ls : List Remaining) (eligible : ℕ → ℕ) (demand : ℕ) →
-    UnitsOf us ls → All (λ u. eligible u ≤ left_of u ls) us → total (takes (merit rule ls) eligible demand) ≡ min demand (sum_of eligible us)
+    UnitsOf us ls → AllByRecursion (λ u. eligible u ≤ left_of u ls) us → total (takes (merit rule ls) eligible demand) ≡ min demand (sum_of eligible us)
 
 -- the choice is permitted
 abbrev pub ChoiceIsPermitted : Type 0
@@ -44,5 +44,5 @@ pub record OneChoice (rule rule' : RuleModel) (xs ys : List Remaining) (eligible
 
 abbrev pub SameLotsGiveOneChoice : Type 0
 SameLotsGiveOneChoice = (rule rule' : RuleModel) → ((a b : Figures) → rule.first a b ≡ rule'.first a b) →
-    (xs ys : List Remaining) → Orderly xs → Orderly ys → All (λ l. In l ys) xs → All (λ l. In l xs) ys →
+    (xs ys : List Remaining) → Orderly xs → Orderly ys → AllByRecursion (λ l. In l ys) xs → AllByRecursion (λ l. In l xs) ys →
     (eligible eligible' : ℕ → ℕ) → ((u : ℕ) → eligible u ≡ eligible' u) → (demand : ℕ) → OneChoice rule rule' xs ys eligible eligible' demand

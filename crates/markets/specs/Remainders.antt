@@ -1,6 +1,6 @@
 -- Lots with what is left of them, as choosing sees them.
 use Rattle.std.specs.Prelude.{◌≡◌, ℕ, cond, ◌⊎◌, List, [], ◌∷◌, ℤ, ◌==◌, ◌≢◌}
-use Rattle.std.specs.List.{AllByRecursion as All}
+use Rattle.std.specs.List.{AllByRecursion}
 use Rattle.units.specs.declared.figures.Figures.{Figures}
 use Rattle.lots.specs.Sums.{sum_of, Pairwise}
 use Rattle.lots.specs.Standings.{Accepted}
@@ -32,10 +32,10 @@ pub record Differ (a b : Remaining) : Type 0 where
 
 -- lots of accepted units, of which any two differ
 pub record Orderly (ls : List Remaining) : Type 0 where
-  pub accepted : All (λ l. Accepted l.figures) ls
+  pub accepted : AllByRecursion (λ l. Accepted l.figures) ls
   pub differ : Pairwise Differ ls
 
 -- us has each number once, and the number of every lot's unit
 pub record UnitsOf (us : List ℕ) (ls : List Remaining) : Type 0 where
   pub once : Pairwise (λ u v. u ≢ v) us
-  pub known : All (λ l. In (unit l) us) ls
+  pub known : AllByRecursion (λ l. In (unit l) us) ls

@@ -1,6 +1,6 @@
 // The units of a selection with their lots.
 ghost use Rattle.std.specs.Prelude.{◌≡◌, ◌≤◌, length};
-ghost use Rattle.std.specs.List.{AllByRecursion as All};
+ghost use Rattle.std.specs.List.{AllByRecursion};
 
 use units::figures::Figures;
 
@@ -32,7 +32,7 @@ pub struct Candidates<L> {
     ghost within: { count ≤ 32 },
     ghost all_units: { length units ≡ 32 },
     ghost all_lots: { length lots ≡ 800 },
-    ghost few: { ∥ All (λ c. c.count ≤ 25) units ∥₁ },
+    ghost few: { ∥ AllByRecursion (λ c. c.count ≤ 25) units ∥₁ },
 }
 
 // The next lot of the unit at a place, with the unit's figures.

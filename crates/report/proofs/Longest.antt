@@ -1,6 +1,6 @@
 -- The longest line, and the longest listing.
 use Rattle.std.proofs.Common.{◌*◌, ◌<◌, ◌≤◌, List, [], ◌∷◌, length, arith}
-use Rattle.std.specs.List.{AllByRecursion as All}
+use Rattle.std.specs.List.{AllByRecursion}
 use Rattle.std.proofs.lemmas.List.{length-append}
 use Rattle.std.proofs.lemmas.Fmt.{length-decimal-le, length_signed_le}
 use Rattle.units.specs.Sides.{market_number}
@@ -33,7 +33,7 @@ row_bounded r t =
       length_signed_le 10 r.cost (omega arith) (omega arith),
     )
 
-lines_bounded : (rows : List Row) → All Typed rows → length (lines rows) ≤ 47 * length rows
+lines_bounded : (rows : List Row) → AllByRecursion Typed rows → length (lines rows) ≤ 47 * length rows
 lines_bounded [] a = omega arith
 lines_bounded (r ∷ rs) (t, a) = omega (arith, length-append (row_text r) (lines rs), row_bounded r t, lines_bounded rs a)
 

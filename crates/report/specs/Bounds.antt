@@ -1,7 +1,7 @@
 -- How long a listing can be.
 use Rattle.std.specs.Prelude.{◌+◌, ◌*◌, ◌^◌, ◌<◌, ◌≤◌, List, length}
 use Rattle.std.specs.Int.Signed.{mag}
-use Rattle.std.specs.List.{AllByRecursion as All}
+use Rattle.std.specs.List.{AllByRecursion}
 use Rattle.ledger.specs.declared.row.Row.{Row}
 use Rattle.report.specs.Listing.{listing}
 
@@ -16,4 +16,4 @@ pub record Typed (r : Row) : Type 0 where
 
 -- a buffer of 51 bytes, and 47 for each row, has the room
 abbrev pub ListingBounded : Type 0
-ListingBounded = (rows : List Row) → All Typed rows → length (listing rows) ≤ 51 + 47 * length rows
+ListingBounded = (rows : List Row) → AllByRecursion Typed rows → length (listing rows) ≤ 51 + 47 * length rows

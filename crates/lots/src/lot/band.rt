@@ -1,6 +1,6 @@
 // The band lots of a unit.
 ghost use Rattle.std.specs.Prelude.{◌≡◌, ◌+◌, ◌≤◌, true, [], ◌++◌, map, reverse, length, filter};
-ghost use Rattle.std.specs.List.{AllByRecursion as All};
+ghost use Rattle.std.specs.List.{AllByRecursion};
 ghost use Rattle.units.specs.declared.side.Side.TheVariants.{Band};
 ghost use Rattle.units.specs.Pairs.{price_in_range};
 ghost use Rattle.lots.specs.Lots.{band_lot, parts, some};
@@ -85,7 +85,7 @@ fn band_lot(n: u32, s: &Span, t: &Span) -> BandLot
 // Adds the lots of one upper pair, lower pairs downward.
 fn add_row(n: u32, s: &Span, spans: &[Span], list: &mut LotList<BandLot>)
     requires upper_priced { price_in_range s.now.price ≡ true }
-    requires lower_priced { All (λ t. price_in_range t.price ≡ true) spans.now }
+    requires lower_priced { AllByRecursion (λ t. price_in_range t.price ≡ true) spans.now }
     requires room { list.old.count + length spans.now ≤ 25 }
     ensures adds_the_lots_of_an_upper_pair { map band_figures (listed list.new) ≡ map band_figures (listed list.old) ++ filter some (map (band_lot n s.now) (reverse spans.now)) }
     ensures counts_one_more_a_pair_at_most { list.new.count ≤ list.old.count + length spans.now }
@@ -102,7 +102,7 @@ fn add_row(n: u32, s: &Span, spans: &[Span], list: &mut LotList<BandLot>)
 // The lots on both sides of the notification n, upper pairs upward.
 fn band_lots(n: u32, spans: &[Span]) -> LotList<BandLot>
     requires few { length spans.now ≤ 5 }
-    requires priced { All (λ s. price_in_range s.price ≡ true) spans.now }
+    requires priced { AllByRecursion (λ s. price_in_range s.price ≡ true) spans.now }
     ensures lists_the_band_lots { map band_figures (listed result) ≡ filter some (parts Band n spans.now) }
 {
     let mut list = no_lots();

@@ -1,6 +1,6 @@
 // The energy lots of a unit.
 ghost use Rattle.std.specs.Prelude.{◌≡◌, ◌≤◌, true, [], map, length, filter};
-ghost use Rattle.std.specs.List.{AllByRecursion as All};
+ghost use Rattle.std.specs.List.{AllByRecursion};
 ghost use Rattle.units.specs.declared.side.Side.TheVariants.{Up, Down};
 ghost use Rattle.units.specs.Pairs.{price_in_range};
 ghost use Rattle.lots.specs.Lots.{up_lot, down_lot, parts, some};
@@ -115,7 +115,7 @@ fn up_lots(n: u32, spans: &[Span]) -> LotList<EnergyLot>
 // The lots below the notification n, downward.
 fn down_lots(n: u32, spans: &[Span]) -> LotList<EnergyLot>
     requires few { length spans.now ≤ 5 }
-    requires priced { All (λ s. price_in_range s.price ≡ true) spans.now }
+    requires priced { AllByRecursion (λ s. price_in_range s.price ≡ true) spans.now }
     ensures lists_the_down_lots { map energy_figures (listed result) ≡ filter some (parts Down n spans.now) }
 {
     let mut list = no_lots();

@@ -1,6 +1,6 @@
 // Stacking the pairs of an offer.
 ghost use Rattle.std.specs.Prelude.{◌≡◌, ◌+◌, ◌≤◌, true, length};
-ghost use Rattle.std.specs.List.{AllByRecursion as All};
+ghost use Rattle.std.specs.List.{AllByRecursion};
 ghost use Rattle.units.specs.Pairs.{summed, price_in_range};
 ghost use Rattle.units.specs.Units.{state_of};
 ghost use Rattle.lots.specs.Spans.{span, stack};
@@ -53,7 +53,7 @@ impl Stack {
     // The pairs of a unit's offer; none of a unit without an offer.
     pub(crate) fn of(unit: &GeneratingUnit) -> Stack
         ensures stacks_the_offer { spans_of result ≡ stack (state_of unit.now).offer }
-        ensures prices_are_in_range { All (λ s. price_in_range s.price ≡ true) (spans_of result) }
+        ensures prices_are_in_range { AllByRecursion (λ s. price_in_range s.price ≡ true) (spans_of result) }
     {
         match &unit.offer {
             Some(offer) => stacked(offer.pairs()),

@@ -1,5 +1,5 @@
 use Rattle.std.proofs.Common.{◌≡◌, length, sym, ap, ◌∙◌, subst, arith}
-use Rattle.std.specs.List.{AllByRecursion as All}
+use Rattle.std.specs.List.{AllByRecursion}
 use Rattle.units.specs.Pairs.{summed}
 use Rattle.units.specs.Offers.{pairs_of, offer_of}
 use Rattle.units.specs.Totals.{offered_total}
@@ -22,5 +22,5 @@ returns-in-Some c =
     let e = c.stacked.ensures.stacks_the_pairs ∙ ap stack c.pairs.ensures.lends_the_pairs in
     record {
       stacks_the_offer = e ∙ ap (λ w. stack (offer_of w)) (sym c.in-Some.is);
-      prices_are_in_range = subst (All Priced) (sym e) (stacked_priced 1 0 (pairs_of o) (priced_all (pairs_of o) o.priced));
+      prices_are_in_range = subst (AllByRecursion Priced) (sym e) (stacked_priced 1 0 (pairs_of o) (priced_all (pairs_of o) o.priced));
     }
