@@ -4,7 +4,7 @@
 usage: python3 tools/respell.py [TABLE]      at the top, once, after the kit's own port.py
 
 TABLE (tools/names.txt) has a line for each name: the old and the new one. They are changed in specs/, in proofs/, in the clauses of src/
-(outside strings and comments) and between backticks of comments and of docs/. Functions of src/, strings, inputs and outputs keep their names.
+(outside strings and comments) and between backticks of comments and of docs/. A word of the library that was brought in under another word's name gets its own name. Functions of src/, strings, inputs and outputs keep their names.
 """
 import glob
 import os
@@ -26,6 +26,14 @@ def plain(text, names):
 
 def quoted(text, names):
     return re.sub(r"`[^`]*`", lambda m: plain(m.group(0), names), text)
+
+
+# the library's own names for its words: All is another word of the library now
+def own_words(text):
+    if "AllByRecursion as All" not in text:
+        return text
+    lines = text.replace("AllByRecursion as All", "AllByRecursion").split("\n")
+    return "\n".join(line if line.lstrip().startswith(("--", "//")) else plain(line, {"All": "AllByRecursion"}) for line in lines)
 
 
 def antt(text, names):
@@ -51,7 +59,7 @@ def main():
                 continue
             with open(path, encoding="utf-8") as f:
                 old = f.read()
-            new = turn(old, names)
+            new = own_words(turn(old, names))
             if new != old:
                 with open(path, "w", encoding="utf-8") as f:
                     f.write(new)
