@@ -8,7 +8,7 @@ ghost use Rattle.book.specs.Choosing.{StandsIn, left_at, Entered};
 
 use crate::Book;
 use crate::standings::StandingTable;
-use lots::lot::Lot;
+use lots::lot::{Filler, Lot};
 use markets::candidate::{Candidates, Left};
 use markets::choice::Choice;
 use markets::choose::choose;
@@ -26,7 +26,7 @@ fn left_at<L: Lot>(lot: L, standing: &StandingTable, place: usize) -> Left<L>
 }
 
 // Enters the unit at a place, with its lots and what is left of each.
-fn enter<L: Lot>(
+fn enter<L: Filler>(
     candidates: &mut Candidates<L>,
     figures: Figures,
     eligible: u32,
@@ -73,7 +73,11 @@ impl Book {
 
     // Every unit with its eligible energy, and its lots of the market's side with what is left of each,
     // where lots of this kind serve that side.
-    fn candidates<L: Lot, M: Market>(&self, market: &M, standing: &StandingTable) -> Candidates<L>
+    fn candidates<L: Filler, M: Market>(
+        &self,
+        market: &M,
+        standing: &StandingTable,
+    ) -> Candidates<L>
         requires { StandsIn standing.now (ledger_of self.now) }
         ensures enters_every_unit { L.Lot.serves (M.Market.model market.now).side ≡ true → Entered L.Lot.figures (M.Market.model market.now) (ledger_of self.now).units (ledger_of self.now).rows result }
     {
@@ -95,7 +99,7 @@ impl Book {
     }
 
     // The lots that a demand takes in merit order, where a table has what stands.
-    pub(crate) fn choose_by<L: Lot, M: Market, R: TieRule>(
+    pub(crate) fn choose_by<L: Filler, M: Market, R: TieRule>(
         &self,
         market: &M,
         rule: &R,
@@ -111,7 +115,7 @@ impl Book {
 
     // The lots that a selection of this demand takes, in merit order, with lots of a kind that serves the market's side.
     // Nothing is changed, and no refusal of a selection is asked.
-    pub fn choose<L: Lot, M: Market, R: TieRule>(
+    pub fn choose<L: Filler, M: Market, R: TieRule>(
         &self,
         market: &M,
         rule: &R,

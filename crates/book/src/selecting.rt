@@ -13,7 +13,7 @@ use crate::slip::Slip;
 use crate::standings::StandingTable;
 use crate::sums::{is_held, open_sums};
 use ledger::slip::SlipFigures;
-use lots::lot::{BandLot, EnergyLot, Lot};
+use lots::lot::{BandLot, EnergyLot, Filler};
 use markets::choice::Choice;
 use markets::market::Market;
 use markets::rule::TieRule;
@@ -64,7 +64,7 @@ impl Book {
     }
 
     // Makes a selection with lots of a kind that serves the market's side, if there is room for its rows.
-    fn take<L: Lot, M: Market, R: TieRule>(
+    fn take<L: Filler, M: Market, R: TieRule>(
         &mut self,
         market: &M,
         rule: &R,

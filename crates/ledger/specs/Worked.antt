@@ -132,6 +132,10 @@ same_answer (refused m) done = false
 same_answer (refused m) (slip s) = false
 same_answer (refused m) (refused n) = m == n
 
+abbrev all_done : List Answer → Bool
+all_done [] = true
+all_done (a ∷ as') = same_answer a done && all_done as'
+
 abbrev is_accepted : Answer → Bool
 is_accepted done = true
 is_accepted (slip s) = true
@@ -173,6 +177,6 @@ abbrev pub all_hold : List Case → Bool
 all_hold [] = true
 all_hold (c ∷ cs) = case_holds c && all_hold cs
 
--- what goes before each case is accepted whole, and every case comes to what it must
+-- the opening is accepted whole, so is what goes before each case, and every case comes to what it must
 abbrev pub cases_hold : Bool
-cases_hold = all_hold worked_cases
+cases_hold = all_done (run empty opening).1 && all_hold worked_cases

@@ -1,4 +1,6 @@
 // Plays the records on standard input and prints the listing, then the fault if there was one.
+#![tactic(auto)]
+
 ghost use Rattle.std.specs.Prelude.{◌≤◌, length, IfOk};
 
 use anyhow::anyhow;

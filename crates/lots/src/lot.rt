@@ -47,10 +47,6 @@ pub trait Lot: Copy {
     // Whether lots of this kind serve a side.
     ghost serves: { Side → Bool };
 
-    // No lot: what fills room for lots.
-    fn none() -> Self
-        ensures has_no_megawatts { figures result ≡ no_lot };
-
     // The upper pair, 0 for none.
     fn up(&self) -> u8
         ensures is_the_upper_pair { result ≡ (figures self.now).up };
@@ -73,4 +69,11 @@ pub trait Lot: Copy {
     ghost small: { bytes (lone Self.row.mir) ≤ 64 };
 
     ghost aligned: { alignment (lone Self.row.mir) ≤ 16 };
+}
+
+// A kind of lots with a value that is no lot: it fills room for lots.
+pub trait Filler: Lot {
+    // Of no pair and no megawatts.
+    fn none() -> Self
+        ensures has_no_megawatts { Self.figures result ≡ no_lot };
 }

@@ -1,4 +1,6 @@
 // A whole interval on two units, step by step: each call with its answer, and the units as they stand.
+#![tactic(auto)]
+
 mod chosen;
 mod figures;
 mod offered;

@@ -7,7 +7,7 @@ ghost use Rattle.lots.specs.Lots.{band_lot, parts, some};
 ghost use Rattle.lots.specs.Values.{listed, band_figures, band_serves};
 ghost use Rattle.std.proofs.Common.{rules};
 
-use super::{BandLot, Lot};
+use super::{BandLot, Filler, Lot};
 use crate::list::LotList;
 use crate::span::{Span, Stack};
 use units::side::Side;
@@ -21,15 +21,6 @@ impl Lot for BandLot {
     ghost small = { Prim.search rules };
 
     ghost aligned = { Prim.search rules };
-
-    fn none() -> BandLot {
-        BandLot {
-            upper: 0,
-            lower: 0,
-            size: 0,
-            cost: 0,
-        }
-    }
 
     fn up(&self) -> u8 {
         self.upper
@@ -55,16 +46,22 @@ impl Lot for BandLot {
     }
 }
 
+impl Filler for BandLot {
+    fn none() -> BandLot {
+        BandLot {
+            upper: 0,
+            lower: 0,
+            size: 0,
+            cost: 0,
+        }
+    }
+}
+
 fn no_lots() -> LotList<BandLot>
     ensures has_no_lots { listed result ≡ [] }
     ensures counts_none { result.count ≡ 0 }
 {
-    LotList::new(BandLot {
-        upper: 0,
-        lower: 0,
-        size: 0,
-        cost: 0,
-    })
+    LotList::new(BandLot::none())
 }
 
 fn band_lot(n: u32, s: &Span, t: &Span) -> BandLot

@@ -7,7 +7,7 @@ ghost use Rattle.lots.specs.Lots.{up_lot, down_lot, parts, some};
 ghost use Rattle.lots.specs.Values.{listed, energy_figures, energy_serves};
 ghost use Rattle.std.proofs.Common.{rules};
 
-use super::{EnergyLot, Lot, Way};
+use super::{EnergyLot, Filler, Lot, Way};
 use crate::list::LotList;
 use crate::span::{Span, Stack};
 use units::side::Side;
@@ -21,15 +21,6 @@ impl Lot for EnergyLot {
     ghost small = { Prim.search rules };
 
     ghost aligned = { Prim.search rules };
-
-    fn none() -> EnergyLot {
-        EnergyLot {
-            way: Way::Up,
-            pair: 0,
-            size: 0,
-            cost: 0,
-        }
-    }
 
     fn up(&self) -> u8 {
         match self.way {
@@ -64,16 +55,22 @@ impl Lot for EnergyLot {
     }
 }
 
+impl Filler for EnergyLot {
+    fn none() -> EnergyLot {
+        EnergyLot {
+            way: Way::Up,
+            pair: 0,
+            size: 0,
+            cost: 0,
+        }
+    }
+}
+
 fn no_lots() -> LotList<EnergyLot>
     ensures has_no_lots { listed result ≡ [] }
     ensures counts_none { result.count ≡ 0 }
 {
-    LotList::new(EnergyLot {
-        way: Way::Up,
-        pair: 0,
-        size: 0,
-        cost: 0,
-    })
+    LotList::new(EnergyLot::none())
 }
 
 fn up_lot(n: u32, s: &Span) -> EnergyLot
