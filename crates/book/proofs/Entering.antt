@@ -2,8 +2,9 @@
 use Rattle.std.proofs.Common.{◌≡◌, ℕ, ◌+◌, ◌-◌, ◌<◌, ◌≤◌, List, [], ◌∷◌, ◌++◌, map, reverse, length, get_or, take, sym, refl, ap, ◌∙◌, subst, ap₂, arith}
 use mathlib.Core.List.{map-append}
 use Rattle.std.specs.List.{AllByRecursion}
+use Rattle.std.specs.Prelude.{Ok, Err, Result, IsOk, OnOk}
 use Rattle.std.proofs.ByRecursion.{All-weaker, All-map, all_kept_by}
-use Rattle.std.proofs.lemmas.List.{take_more, length-take, get_or-map}
+use Rattle.std.proofs.lemmas.List.{take_more}
 use Rattle.units.specs.declared.pair.Pair.{Pair}
 use Rattle.units.specs.declared.side.Side.{Side}
 use Rattle.units.specs.declared.side.Side.TheVariants.{Up, Down, Band}
@@ -13,22 +14,20 @@ use Rattle.lots.specs.Sums.{sum_of}
 use Rattle.lots.specs.Spans.{stacked, stack}
 use Rattle.lots.specs.Lots.{LotFigures, up_lot, down_lot, band_lot, parts, some, lots}
 use Rattle.lots.proofs.Lists.{all_reverse, all_joined, sum_of-append}
-use Rattle.markets.specs.declared.candidate.Candidate.{Candidate}
 use Rattle.markets.specs.declared.candidate.Candidates.{Candidates}
 use Rattle.markets.specs.Models.{MarketModel}
 use Rattle.markets.specs.Remainders.{Remaining}
-use Rattle.markets.specs.Candidates.{remaining, units_in, queues}
+use Rattle.markets.specs.Candidates.{Entrant, entrant, remaining, queue, units_in, queues}
 use Rattle.ledger.specs.declared.row.Row.{Row}
 use Rattle.ledger.specs.Selections.{number, remaining_lot}
 use Rattle.book.specs.declared.standings.StandingTable.{StandingTable}
-use Rattle.book.specs.declared.tables.UnitEntry.{UnitEntry}
-use Rattle.book.specs.Tables.{unit_of}
 use Rattle.book.specs.StandingTables.{StandsAt}
 use Rattle.book.specs.Choosing.{left_at, candidate_of, queue_of, Entered}
 
--- the candidates are as many as are counted
-pub units_counted : {L : Type 0} (cs : Candidates L) → length (units_in cs) ≡ cs.count
-units_counted cs = simp length-take (omega (arith, cs.within, cs.all_units))
+-- what a call says of its success, where it succeeded
+pub where_ok : {T E P : Type 0} (r : Result T E) → IsOk r → OnOk r P → P
+where_ok (Ok x) h p = p
+where_ok (Err e) h p = absurd cc
 
 -- ---- the pairs of a unit of at most 5 pairs
 abbrev Small : LotFigures → Type 0
@@ -65,24 +64,27 @@ module _ {L : Type 0} (meant : L → LotFigures) (t : StandingTable) (p : ℕ) (
   pub lots_left : (side : Side) (ls : List L) → map meant ls ≡ lots side u → length u.offer ≤ 5 → map (remaining meant u.figures) (map (left_at meant t p) ls) ≡ queue_of side rows u
   lots_left side ls e few = all_left ls (subst (AllByRecursion Small) (sym e) (small_lots side u few)) ∙ ap (map (remaining_lot rows u)) e
 
--- ---- one unit more
+-- ---- no unit, and one unit more
+none_mapped : {X Y Z : Type 0} (f : X → Y) (g : X → Z) (xs : List X) → map f xs ≡ [] → map g xs ≡ []
+none_mapped f g [] e = refl
+none_mapped f g (x ∷ xs) e = absurd cc
+
+pub entered_none : {L : Type 0} (meant : L → LotFigures) (m : MarketModel) (rows : List Row) (cs : Candidates L) → units_in cs ≡ [] → Entered meant m [] rows cs
+entered_none meant m rows cs e = record { units = e; lots = none_mapped entrant (queue meant cs.lots.items) cs.units.items e }
+
 map_more : {X Y : Type 0} (f : X → Y) (xs : List X) (i : ℕ) (d : X) → i < length xs → map f (take (i + 1) xs) ≡ map f (take i xs) ++ (f (get_or xs i d) ∷ [])
 map_more f xs i d h = ap (map f) (take_more xs i d h) ∙ map-append f (take i xs) (get_or xs i d ∷ [])
 
-pub entered_more : {L : Type 0} (meant : L → LotFigures) (m : MarketModel) (us : List UnitState) (rows : List Row) (cs cs' : Candidates L) (i : ℕ) (u : UnitState) (c : Candidate) (q : List Remaining) →
+pub entered_more : {L : Type 0} (meant : L → LotFigures) (m : MarketModel) (us : List UnitState) (rows : List Row) (cs cs' : Candidates L) (i : ℕ) (u : UnitState) (c : Entrant) (q : List Remaining) →
     i < length us → get_or us i u ≡ u → c ≡ candidate_of m rows u → q ≡ queue_of m.side rows u →
     units_in cs' ≡ units_in cs ++ (c ∷ []) → queues meant cs' ≡ queues meant cs ++ (q ∷ []) → Entered meant m (take i us) rows cs → Entered meant m (take (i + 1) us) rows cs'
 entered_more meant m us rows cs cs' i u c q h at is_c is-q more-units more-lots before =
     let f = candidate_of m rows in
     let g = queue_of m.side rows in
     record {
-      units = more-units ∙ (ap₂ (λ xs (x : Candidate). xs ++ (x ∷ [])) before.units (is_c ∙ ap f (sym at)) ∙ sym (map_more f us i u h));
+      units = more-units ∙ (ap₂ (λ xs (x : Entrant). xs ++ (x ∷ [])) before.units (is_c ∙ ap f (sym at)) ∙ sym (map_more f us i u h));
       lots = more-lots ∙ (ap₂ (λ xs (x : List Remaining). xs ++ (x ∷ [])) before.lots (is-q ∙ ap g (sym at)) ∙ sym (map_more g us i u h));
     }
-
--- what is read of a table of units
-pub unit_read : (es : List UnitEntry) (i : ℕ) (e : UnitEntry) → i < length es → e ≡ get_or es i e → (d : UnitState) → get_or (map unit_of es) i d ≡ unit_of e
-unit_read es i e h is d = get_or-map unit_of es i e d h ∙ ap unit_of (sym is)
 
 -- a sum over the units so far, with one unit more
 pub sum_more : (f : UnitState → ℕ) (us : List UnitState) (i : ℕ) (d : UnitState) → i < length us → sum_of f (take (i + 1) us) ≡ sum_of f (take i us) + f (get_or us i d)

@@ -1,5 +1,4 @@
 pub mod Listed
-pub mod Searching
 pub mod Tallying
 pub mod Rows
 pub mod Amounts
@@ -10,3 +9,4 @@ pub mod Candidacy
 pub mod Pricing
 pub mod Taking
 pub mod Lawful
+pub mod Changing

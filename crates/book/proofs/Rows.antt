@@ -1,58 +1,45 @@
--- The rows of a table: looked through, changed in place, and added to.
-use Rattle.std.proofs.Common.{◌≡◌, ℕ, ◌+◌, ◌<◌, ◌≤◌, false, not, ◌||◌, List, [], ◌∷◌, ◌++◌, map, length, get_or, take, drop, sym, refl, ap, ◌∙◌, arith}
-use Rattle.std.proofs.lemmas.List.{append_assoc, drop_more, drop_all, length-map, length-append, length-take-le, map_more, take_all, take_at}
+-- The tables: looked through, changed in place, and added to.
+use Rattle.std.proofs.Common.{◌≡◌, ℕ, ◌≤◌, not, ◌||◌, eqb, List, [], ◌∷◌, ◌++◌, map, length, take, drop, pos, refl, ap, ◌∙◌}
+use Rattle.std.specs.List.{list_any, refill}
+use Rattle.std.proofs.lemmas.List.{append-nil, drop_all, take_all}
+use Rattle.arrayvec.proofs.ArrayVecLemmas.{items-with_items}
 use Rattle.units.specs.declared.side.MarketNumber.{MarketNumber}
+use Rattle.units.specs.declared.side.MarketNumber.TheVariants.{Band as MarketBand}
 use Rattle.units.specs.declared.side.Side.TheVariants.{Band}
 use Rattle.markets.specs.Candidates.{commitment}
 use Rattle.markets.specs.Choices.{Taken}
 use Rattle.ledger.specs.declared.row.Row.{Row}
+use Rattle.ledger.specs.declared.row.State.TheVariants.{Open}
+use Rattle.ledger.specs.Ledger.{has_rows}
 use Rattle.ledger.specs.Selections.{of_side}
 use Rattle.ledger.specs.Selecting.{energy_stands, row_for}
-use Rattle.book.specs.declared.tables.RowTable.{RowTable}
-use Rattle.book.specs.Tables.{rows_of}
 use Rattle.book.specs.Adding.{row_by}
-use Rattle.book.proofs.Searching.{no_row}
 
-pub count_rows : (t : RowTable) → length (rows_of t) ≡ t.count
-count_rows t = length-take-le t.count t.rows (omega arith)
+-- ---- elements changed in place, one after the other
+pub changed_all : {X : Type 0} (f : X → X) (xs ys : List X) (i : ℕ) → length xs ≤ i → ys ≡ map f (take i xs) ++ drop i xs → ys ≡ map f xs
+changed_all f xs ys i h e = e ∙ (ap (λ zs. map f zs ++ drop i xs) (take_all i xs h) ∙ (ap (λ zs. map f xs ++ zs) (drop_all i xs h) ∙ append-nil (map f xs)))
 
--- ---- whether energy stands
-pub energy_more : (rs : List Row) (i : ℕ) → i < length rs → energy_stands (drop i rs) ≡ (not (of_side Band (get_or rs i no_row)) || energy_stands (drop (i + 1) rs))
-energy_more rs i h = ap energy_stands (drop_more rs i no_row h)
+-- a write through the slice of a vector
+pub refilled : {X : Type 0} (xs ys : List X) → length ys ≡ length xs → refill (length xs) xs ys ≡ ys
+refilled xs ys h = items-with_items (record { items = xs }) ys h
 
-pub energy_end : (rs : List Row) (i : ℕ) → length rs ≤ i → energy_stands (drop i rs) ≡ false
-energy_end rs i h = ap energy_stands (drop_all i rs h)
+-- what stands where no row does
+abbrev pub no_row : Row
+no_row = record { selection = 0; market = MarketBand; unit = 0; up = 0; down = 0; megawatts = 0; cost = pos 0; state = Open }
 
--- ---- the first n of some rows changed in place
-pub changed_all : (f : Row → Row) (old rows : List Row) (i n k : ℕ) → n ≤ length old → i ≡ n → rows ≡ map f (take i old) ++ drop i old → k ≡ n → take k rows ≡ map f (take n old)
-changed_all f old rows i n k h is e same =
-    let long : length (map f (take n old)) ≡ n = length-map (take n old) f ∙ length-take-le n old h in
-    rw (same, e, is) (take_at (map f (take n old)) (drop n old) n long)
+-- ---- whether some row is of a unit, and whether energy stands
+pub any_of_unit : (n : ℕ) (rs : List Row) → list_any (λ r. eqb r.unit n) rs ≡ has_rows n rs
+any_of_unit n [] = refl
+any_of_unit n (r ∷ rs) = ap (λ b. eqb r.unit n || b) (any_of_unit n rs)
 
--- ---- a row added for each of the first i of some lots
-pub record Added {X : Type 0} (f : X → Row) (old : List Row) (xs : List X) (i : ℕ) (rows : List Row) : Type 0 where
-  pub are : rows ≡ old ++ map f (take i xs)
-
-module _ {X : Type 0} {f : X → Row} {old : List Row} {xs : List X} {i : ℕ} {rows : List Row} (a : Added f old xs i rows) where
-  pub length_added : i ≤ length xs → length rows ≡ length old + i
-  length_added le =
-      ap length a.are ∙ (length-append old (map f (take i xs)) ∙ ap (λ n. length old + n) (length-map (take i xs) f ∙ length-take-le i xs le))
-
-  pub added_more : (x : X) (r : Row) (next : List Row) → i < length xs → x ≡ get_or xs i x → r ≡ f x → next ≡ rows ++ r ∷ [] → Added f old xs (i + 1) next
-  added_more x r next lt is row_is next-is =
-      let more : map f (take (i + 1) xs) ≡ map f (take i xs) ++ f x ∷ [] = map_more f xs i x lt ∙ ap (λ y. map f (take i xs) ++ f y ∷ []) (sym is) in
-      record { are = rw (next-is, row_is, a.are, more) (append_assoc old (map f (take i xs)) (f x ∷ [])) }
-
-  pub added_all : length xs ≤ i → rows ≡ old ++ map f xs
-  added_all le = a.are ∙ ap (λ ys. old ++ map f ys) (take_all i xs le)
+pub any_of_energy : (rs : List Row) → list_any (λ r. not (of_side Band r)) rs ≡ energy_stands rs
+any_of_energy [] = refl
+any_of_energy (r ∷ rs) = ap (λ b. not (of_side Band r) || b) (any_of_energy rs)
 
 pub map_twice : {X Y Z : Type 0} (f : X → Y) (h : Y → Z) (xs : List X) → map (λ x. h (f x)) xs ≡ map h (map f xs)
 map_twice f h [] = refl
 map_twice f h (x ∷ xs) = ap (λ ys. h (f x) ∷ ys) (map_twice f h xs)
 
 -- ---- rows of what is taken
-pub row_for_by : (n : ℕ) (k : MarketNumber) (t : Taken) → row_for n k t ≡ row_by n k (commitment t)
-row_for_by n k t = refl
-
 pub rows_for_by : (n : ℕ) (k : MarketNumber) (ts : List Taken) → map (row_for n k) ts ≡ map (row_by n k) (map commitment ts)
 rows_for_by n k ts = map_twice commitment (row_by n k) ts

@@ -2,8 +2,8 @@
 use Rattle.std.proofs.Common.{◌≡◌, ℕ, zero, suc, ◌+◌, ◌^◌, ◌<◌, ◌≤◌, ◌&&◌, eqb, List, [], ◌∷◌, ◌++◌, map, length, get_or, set, replicate, sym, refl, ap, ◌∙◌, subst, inl, inr, arith}
 use Rattle.std.proofs.lemmas.List.Elements.{filter-append}
 use Rattle.std.proofs.ByRecursion.{All-get_or}
-use Rattle.std.proofs.lemmas.List.{get_or-map, get_or-set_same, get_or-set_other, get_or_past, get_or-replicate, length-map, length-set, map-set}
-use Rattle.std.proofs.lemmas.Bool.{cases_eq, cases_lt, cases_Bool, eq-eqb, ne_eqb, cond_both, cond-true, cond-false, and_from, and_left, and_right}
+use Rattle.std.proofs.lemmas.List.{get_or-map, get_or-set_same, get_or-set_other, get_or-replicate, length-map, map-set}
+use Rattle.std.proofs.lemmas.Bool.{cases_eq, cases_Bool, eq-eqb, ne_eqb, cond_both, cond-true, cond-false}
 use Rattle.units.specs.declared.side.Side.{Side}
 use Rattle.units.specs.declared.side.Side.TheVariants.{Up, Down, Band}
 use Rattle.units.specs.Units.{UnitState}
@@ -11,20 +11,13 @@ use Rattle.lots.specs.declared.standing.Standing.{Standing}
 use Rattle.lots.specs.Sums.{sum_of}
 use Rattle.lots.proofs.Lists.{sum_of-append}
 use Rattle.ledger.specs.declared.row.Row.{Row}
-use Rattle.book.specs.declared.tables.UnitEntry.{UnitEntry}
 use Rattle.book.specs.declared.standings.UnitStanding.{UnitStanding}
 use Rattle.book.specs.declared.standings.StandingTable.{StandingTable}
-use Rattle.book.specs.Tables.{unit_of}
 use Rattle.ledger.specs.Selections.{number, Numbered, own_rows, at_key, of_side}
-use Rattle.book.specs.Squares.{cell, SixWide}
+use Rattle.book.specs.Squares.{cell}
 use Rattle.book.specs.StandingTables.{no_sides, sides_at, lots_at, lot_at, StandsAt, StandsBy, share, capped, sides_with, lot_with, LotsWith, NoneNumbered, FirstNumbered}
 
 -- ---- numbers of units
--- what holds of the number of an entry that was read holds at its place
-pub number_read : (P : ℕ → Type 0) (es : List UnitEntry) (i : ℕ) (e : UnitEntry) → i < length es → e ≡ get_or es i e → P (number (unit_of e)) →
-    (d : UnitState) → P (number (get_or (map unit_of es) i d))
-number_read P es i e h is p d = subst (λ u. P (number u)) (sym (get_or-map unit_of es i e d h ∙ ap unit_of (sym is))) p
-
 -- two places with one number are one place
 pub one_place : (us : List UnitState) → Numbered us → (p q : ℕ) (d : UnitState) → p < length us → q < length us → number (get_or us p d) ≡ number (get_or us q d) → p ≡ q
 one_place [] h p q d hp hq e = omega arith
@@ -57,15 +50,6 @@ at_key_le : (i j : ℕ) (r : Row) → at_key i j r ≤ r.megawatts
 at_key_le i j r = cond_both (eqb r.up i && eqb r.down j) r.megawatts 0 (λ m. m ≤ r.megawatts) (λ e. omega arith) (λ e. omega arith)
 
 -- ---- the lots of one unit
-lot_with_here : (i j : ℕ) (r : Row) (m : ℕ) → r.up ≡ i → r.down ≡ j → lot_with i j r m ≡ capped (m + r.megawatts)
-lot_with_here i j r m e f = cond-true (eqb r.up i && eqb r.down j) (capped (m + r.megawatts)) m (and_from _ _ (eq-eqb r.up i e) (eq-eqb r.down j f))
-
-lot_with_above : (i j : ℕ) (r : Row) (m : ℕ) → (r.up ≡ i → ⊥) → lot_with i j r m ≡ m
-lot_with_above i j r m ne = cond-false (eqb r.up i && eqb r.down j) (capped (m + r.megawatts)) m (and_left _ _ (ne_eqb r.up i ne))
-
-lot_with_beside : (i j : ℕ) (r : Row) (m : ℕ) → (r.down ≡ j → ⊥) → lot_with i j r m ≡ m
-lot_with_beside i j r m ne = cond-false (eqb r.up i && eqb r.down j) (capped (m + r.megawatts)) m (and_right _ _ (ne_eqb r.down j ne))
-
 -- what fits is not capped
 lot_with_adds : (i j : ℕ) (r : Row) (m : ℕ) → m + r.megawatts < 2 ^ 32 → lot_with i j r m ≡ m + at_key i j r
 lot_with_adds i j r m fits = elim (cases_Bool (eqb r.up i && eqb r.down j)) [
@@ -78,54 +62,6 @@ lot_with_adds i j r m fits = elim (cases_Bool (eqb r.up i && eqb r.down j)) [
       let k = cond-false (eqb r.up i && eqb r.down j) r.megawatts 0 e in
       omega arith
 ]
-
--- a square with a number written into it
-abbrev written : List (List ℕ) → ℕ → ℕ → ℕ → List (List ℕ)
-written lots a b v = set lots a (set (get_or lots a []) b v)
-
-module _ (lots : List (List ℕ)) (high : length lots ≡ 6) (wide : SixWide lots) (a b v : ℕ) (ha : a < 6) (hb : b < 6) where
-  row_here : get_or (written lots a b v) a [] ≡ set (get_or lots a []) b v
-  row_here = get_or-set_same lots a (set (get_or lots a []) b v) [] (omega arith)
-
-  row_other : (i : ℕ) → (i ≡ a → ⊥) → get_or (written lots a b v) i [] ≡ get_or lots i []
-  row_other i ne = get_or-set_other lots a i (set (get_or lots a []) b v) [] ne
-
-  pub written_high : length (written lots a b v) ≡ 6
-  written_high = length-set lots a (set (get_or lots a []) b v) ∙ high
-
-  pub written_wide : SixWide (written lots a b v)
-  written_wide i h = elim (cases_eq i a) [
-    | inl e ↦ ap (λ k. length (get_or (written lots a b v) k [])) e ∙ (ap length row_here ∙ (length-set (get_or lots a []) b v ∙ wide a ha))
-    | inr ne ↦ ap length (row_other i ne) ∙ wide i h
-  ]
-
-  cell_here : cell (written lots a b v) a b ≡ v
-  cell_here = ap (λ (ns : List ℕ). get_or ns b 0) row_here ∙ get_or-set_same (get_or lots a []) b v 0 (omega (arith, wide a ha))
-
-  cell_beside : (j : ℕ) → (j ≡ b → ⊥) → cell (written lots a b v) a j ≡ cell lots a j
-  cell_beside j ne = ap (λ (ns : List ℕ). get_or ns j 0) row_here ∙ get_or-set_other (get_or lots a []) b j v 0 ne
-
-  cell_other : (i j : ℕ) → (i ≡ a → ⊥) → cell (written lots a b v) i j ≡ cell lots i j
-  cell_other i j ne = ap (λ (ns : List ℕ). get_or ns j 0) (row_other i ne)
-
-module _ (lots : List (List ℕ)) (high : length lots ≡ 6) (wide : SixWide lots) (r : Row) (v : ℕ) (hu : r.up < 6) (hd : r.down < 6) (sum : v ≡ capped (cell lots r.up r.down + r.megawatts)) where
-  here : (i j : ℕ) → i ≡ r.up → j ≡ r.down → cell (written lots r.up r.down v) i j ≡ lot_with i j r (cell lots i j)
-  here i j e f =
-      let k = lot_with_here i j r (cell lots i j) (sym e) (sym f) in
-      let w : cell (written lots r.up r.down v) i j ≡ v = rw (e, f) (cell_here lots high wide r.up r.down v hu hd) in
-      let s : v ≡ capped (cell lots i j + r.megawatts) = rw (e, f) sum in
-      w ∙ (s ∙ sym k)
-
-  pub lots_more : LotsWith lots r (written lots r.up r.down v)
-  lots_more i j hi hj = elim (cases_eq i r.up) [
-    | inl e ↦ elim (cases_eq j r.down) [
-      | inl f ↦ here i j e f
-      | inr ne ↦
-          let w : cell (written lots r.up r.down v) i j ≡ cell lots i j = rw e (cell_beside lots high wide r.up r.down v hu hd j ne) in
-          w ∙ sym (lot_with_beside i j r (cell lots i j) (λ g. ne (sym g)))
-    ]
-    | inr ne ↦ cell_other lots high wide r.up r.down v hu hd i j ne ∙ sym (lot_with_above i j r (cell lots i j) (λ g. ne (sym g)))
-  ]
 
 -- ---- the table
 same_standing : (a b c a' b' c' : ℕ) → a ≡ a' → b ≡ b' → c ≡ c' → ◌≡◌ {A = Standing} (record { up = a; down = b; band = c }) (record { up = a'; down = b'; band = c' })
@@ -148,31 +84,6 @@ module _ {X : Type 0} (f : UnitStanding → X) (d : X) (t : StandingTable) (q : 
 module _ {X : Type 0} (f : UnitStanding → X) (d : X) (t : StandingTable) (p : ℕ) where
   pub field_read : (s : UnitStanding) → p < 32 → f (get_or t.units p s) ≡ get_or (map f t.units) p d
   field_read s h = sym (get_or-map f t.units p s d (omega (arith, t.long)))
-
-  pub field_past : 32 ≤ p → get_or (map f t.units) p d ≡ d
-  field_past h =
-      let len = length-map t.units f in
-      get_or_past (map f t.units) p d (omega (arith, t.long))
-
--- ---- what is read of a square
-pub cell_above : (square : List (List ℕ)) (i j : ℕ) → length square ≡ 6 → 6 ≤ i → 0 ≡ cell square i j
-cell_above square i j high h = sym (ap (λ (ns : List ℕ). get_or ns j 0) (get_or_past square i [] (omega arith)))
-
-pub cell-after : (square : List (List ℕ)) (i j : ℕ) → SixWide square → i < 6 → 6 ≤ j → 0 ≡ cell square i j
-cell-after square i j wide hi h = sym (get_or_past (get_or square i []) j 0 (omega (arith, wide i hi)))
-
-abbrev noughts : List ℕ
-noughts = replicate 6 0
-
-nought : (j : ℕ) → get_or noughts j 0 ≡ 0
-nought j = elim (cases_lt j 6) [ inl h ↦ get_or-replicate 6 j 0 0 h | inr h ↦ get_or_past noughts j 0 h ]
-
--- a square of noughts
-pub cell_of_none : (i j : ℕ) → cell (replicate 6 noughts) i j ≡ 0
-cell_of_none i j = elim (cases_lt i 6) [
-  | inl h ↦ ap (λ (ns : List ℕ). get_or ns j 0) (get_or-replicate 6 i noughts [] h) ∙ nought j
-  | inr h ↦ ap (λ (ns : List ℕ). get_or ns j 0) (get_or_past (replicate 6 noughts) i [] h)
-]
 
 -- ---- one row more
 module _ (us : List UnitState) (rs : List Row) (r : Row) where

@@ -4,11 +4,10 @@ use Rattle.units.specs.declared.side.Side.{Side}
 use Rattle.units.specs.Units.{UnitState}
 use Rattle.lots.specs.Lots.{LotFigures, lots}
 use Rattle.markets.specs.declared.candidate.Left.{Left}
-use Rattle.markets.specs.declared.candidate.Candidate.{Candidate}
 use Rattle.markets.specs.declared.candidate.Candidates.{Candidates}
 use Rattle.markets.specs.Models.{MarketModel}
 use Rattle.markets.specs.Remainders.{Remaining}
-use Rattle.markets.specs.Candidates.{entered, units_in, queues}
+use Rattle.markets.specs.Candidates.{Entrant, entered, units_in, queues}
 use Rattle.ledger.specs.declared.row.Row.{Row}
 use Rattle.ledger.specs.Ledger.{Ledger}
 use Rattle.ledger.specs.Selections.{number, standing_of, remaining_lot}
@@ -24,8 +23,8 @@ abbrev pub left_at : {L : Type 0} → (L → LotFigures) → StandingTable → �
 left_at meant t p lot = record { lot = lot; rest = (meant lot).size - lot_at t p (meant lot).up (meant lot).down }
 
 -- a unit as choosing sees it
-abbrev pub candidate_of : MarketModel → List Row → UnitState → Candidate
-candidate_of m rows u = entered u.figures (m.eligible u (standing_of rows (number u))) (length (lots m.side u))
+abbrev pub candidate_of : MarketModel → List Row → UnitState → Entrant
+candidate_of m rows u = entered u.figures (m.eligible u (standing_of rows (number u)))
 
 -- its lots of a side with their remainders
 abbrev pub queue_of : Side → List Row → UnitState → List Remaining

@@ -1,6 +1,7 @@
 pub mod Tables
 pub mod Places
 pub mod Books
+pub mod Changing
 pub mod Squares
 pub mod StandingTables
 pub mod Choosing

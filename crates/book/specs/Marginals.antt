@@ -1,21 +1,12 @@
--- A marginal price as the ledger gives it, and the steps to it.
-use Rattle.std.specs.Prelude.{ℕ, ℤ, Some, None, Ok, Err, Option, Result}
-use Rattle.std.specs.Int.{int_max, int_min}
+-- A marginal price as the ledger gives it.
+use Rattle.std.specs.Prelude.{ℕ, Some, None, Ok, Err, Option, Result}
 use Rattle.units.specs.declared.refusal.Refusal.{Refusal}
 use Rattle.units.specs.Refusals.{number_of}
 use Rattle.ledger.specs.Marginal.{Marginal, highest_is, lowest_is, both_are}
 use Rattle.book.specs.declared.marginal.MarginalPrice.{MarginalPrice}
 use Rattle.book.specs.declared.marginal.MarginalPrice.TheVariants.{Up, Down, Band}
 
--- a price more for the highest, and for the lowest
-abbrev pub higher : Option ℤ → ℤ → Option ℤ
-higher None z = Some z
-higher (Some b) z = Some (int_max b z)
-
-abbrev pub lower : Option ℤ → ℤ → Option ℤ
-lower None z = Some z
-lower (Some b) z = Some (int_min b z)
-
+-- the prices of an answer as the ledger gives them
 abbrev pub marginal_of : MarginalPrice → Marginal
 marginal_of (Up h) = highest_is h
 marginal_of (Down p) = lowest_is p

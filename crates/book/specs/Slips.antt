@@ -1,5 +1,5 @@
 -- Slips, and the answers of the calls that hand them out and take them back.
-use Rattle.std.specs.Prelude.{Bool, true, false, Ok, Err, Result}
+use Rattle.std.specs.Prelude.{Ok, Err, Result}
 use Rattle.units.specs.declared.refusal.Refusal.{Refusal}
 use Rattle.units.specs.Refusals.{number_of}
 use Rattle.ledger.specs.declared.slip.SlipFigures.{SlipFigures}
@@ -8,7 +8,7 @@ use Rattle.book.specs.declared.slip.Slip.{Slip}
 
 -- the three numbers of a slip
 abbrev pub figures_of : Slip → SlipFigures
-figures_of s = record { number = s.number; megawatts = s.megawatts; cost = s.cost }
+figures_of s = s.figures
 
 -- a selection answers its slip, or the number of its refusal
 abbrev pub slip_answer : Result Slip Refusal → Answer
@@ -19,8 +19,3 @@ slip_answer (Err e) = refused (number_of e)
 abbrev pub settled_answer : {X : Type 0} → Result X Slip → Answer
 settled_answer (Ok x) = done
 settled_answer (Err s) = refused 16
-
--- the same, told by a test
-abbrev pub held_answer : Bool → Answer
-held_answer true = done
-held_answer false = refused 16

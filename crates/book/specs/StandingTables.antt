@@ -8,6 +8,7 @@ use Rattle.lots.specs.declared.standing.Standing.{Standing}
 use Rattle.lots.specs.Sums.{sum_of}
 use Rattle.ledger.specs.declared.row.Row.{Row}
 use Rattle.book.specs.declared.standings.StandingTable.{StandingTable}
+use Rattle.book.specs.declared.standings.UnitStanding.{UnitStanding}
 use Rattle.ledger.specs.Selections.{number, Numbered, of_side, standing_of, lot_stands}
 use Rattle.book.specs.Squares.{cell}
 
@@ -25,6 +26,11 @@ lots_at t p = slice_index_or (map (λ u. u.lots) t.units) p []
 -- the megawatts of a lot of the unit at this place, 0 where there is none
 abbrev pub lot_at : StandingTable → ℕ → ℕ → ℕ → ℕ
 lot_at t p i j = cell (lots_at t p) i j
+
+-- nothing stands of a unit, side by side and lot by lot
+pub record StandsOfNothing (s : UnitStanding) : Type 0 where
+  pub sides : s.sides ≡ no_sides
+  pub lots : (i j : ℕ) → cell s.lots i j ≡ 0
 
 -- at this place is what stands of the unit with the number n by these rows, side by side and lot by lot
 pub record StandsAt (t : StandingTable) (p n : ℕ) (rows : List Row) : Type 0 where

@@ -1,12 +1,15 @@
-// The calls of a book, each by the ledger's step.
-ghost use Rattle.std.specs.Prelude.{◌≡◌};
+// The calls of a book, each by the ledger's step: the same two clauses stand on each, about another call.
+ghost use Rattle.std.specs.Prelude.{◌≡◌, Bool};
+ghost use Rattle.std.specs.Fn.{FnOnceReturnsAtMut};
+ghost use Rattle.units.specs.Units.{UnitState};
 ghost use Rattle.ledger.specs.Ledger.{empty};
 ghost use Rattle.ledger.specs.Calls.{registering, declaring, notifying, making_offer, closing, step};
 ghost use Rattle.book.specs.Books.{ledger_of, answer_of};
+ghost use Rattle.book.specs.Changing.{ActsBy, Changes};
 
 use crate::Book;
-use crate::tables::{RowTable, UnitTable};
-use units::figures::Registration;
+use crate::tables::{Found, RowTable, UnitTable};
+use units::figures::{Figures, Registration};
 use units::offer::Offer;
 use units::pair::{Pair, is_price};
 use units::refusal::Refusal;
@@ -29,23 +32,45 @@ impl Book {
         ensures answers_as_the_ledger { answer_of result ≡ (step (ledger_of self.old) (registering registration.now)).1 }
         ensures is_the_ledger_after_the_call { ledger_of self.new ≡ (step (ledger_of self.old) (registering registration.now)).0 }
     {
-        let true = registration.in_range() else {
+        if !registration.in_range() {
             return Err(Refusal::OutOfRange);
-        };
-        let false = self.closed else {
+        }
+        if self.closed {
             return Err(Refusal::AlreadyClosed);
-        };
-        let None = self.units.find(registration.number) else {
+        }
+        if self.units.find(registration.number).is_some() {
             return Err(Refusal::NumberTaken);
-        };
-        let true = self.units.len() < 32 else {
+        }
+        if self.units.is_full() {
             return Err(Refusal::UnitsFull);
-        };
-        let true = registration.agrees() else {
+        }
+        if !registration.agrees() {
             return Err(Refusal::FiguresDisagree);
-        };
-        self.units.push(GeneratingUnit::new(registration.figures()));
+        }
+        self.units
+            .push(GeneratingUnit::new(Figures::from(*registration)));
         Ok(())
+    }
+
+    // The unit with this number as an act of its own leaves it, where the unit has no rows.
+    fn changed<F: FnOnce(&mut GeneratingUnit) -> Result<(), Refusal>>(
+        &self,
+        number: u16,
+        megawatts: u16,
+        act: F,
+    ) -> Result<Found, Refusal>
+        requires { F.IsAlwaysCallable act }
+        ensures follows_the_lines { (may : UnitState → Bool) (f : UnitState → UnitState) → ActsBy (FnOnceReturnsAtMut F.FnOnce act) may f → Changes may f number megawatts (ledger_of self.now) result }
+    {
+        if number == 0 || megawatts > 5000 {
+            return Err(Refusal::OutOfRange);
+        }
+        let mut found = self.units.find(number).ok_or(Refusal::NoSuchUnit)?;
+        act(&mut found.unit)?;
+        if self.rows.has_unit(number) {
+            return Err(Refusal::RowsStand);
+        }
+        Ok(found)
     }
 
     // Declares the availability of a unit.
@@ -53,20 +78,8 @@ impl Book {
         ensures answers_as_the_ledger { answer_of result ≡ (step (ledger_of self.old) (declaring number megawatts)).1 }
         ensures is_the_ledger_after_the_call { ledger_of self.new ≡ (step (ledger_of self.old) (declaring number megawatts)).0 }
     {
-        let true = (1 <= number && megawatts <= 5000) else {
-            return Err(Refusal::OutOfRange);
-        };
-        let Some(found) = self.units.find(number) else {
-            return Err(Refusal::NoSuchUnit);
-        };
-        let mut unit = found.unit;
-        let Ok(()) = unit.declare(megawatts) else {
-            return Err(Refusal::BoundBroken);
-        };
-        let false = self.rows.has_unit(number) else {
-            return Err(Refusal::RowsStand);
-        };
-        self.units.put(found.place, unit);
+        let found = self.changed(number, megawatts, |unit| unit.declare(megawatts))?;
+        self.units.put(found.place, found.unit);
         Ok(())
     }
 
@@ -75,20 +88,9 @@ impl Book {
         ensures answers_as_the_ledger { answer_of result ≡ (step (ledger_of self.old) (notifying number megawatts)).1 }
         ensures is_the_ledger_after_the_call { ledger_of self.new ≡ (step (ledger_of self.old) (notifying number megawatts)).0 }
     {
-        let true = (1 <= number && megawatts <= 5000) else {
-            return Err(Refusal::OutOfRange);
-        };
-        let Some(found) = self.units.find(number) else {
-            return Err(Refusal::NoSuchUnit);
-        };
-        let mut unit = found.unit;
-        let Ok(()) = unit.notify(self.closed, megawatts) else {
-            return Err(Refusal::BoundBroken);
-        };
-        let false = self.rows.has_unit(number) else {
-            return Err(Refusal::RowsStand);
-        };
-        self.units.put(found.place, unit);
+        let closed = self.closed;
+        let found = self.changed(number, megawatts, |unit| unit.notify(closed, megawatts))?;
+        self.units.put(found.place, found.unit);
         Ok(())
     }
 
@@ -97,26 +99,16 @@ impl Book {
         ensures answers_as_the_ledger { answer_of result ≡ (step (ledger_of self.old) (making_offer number pairs.now)).1 }
         ensures is_the_ledger_after_the_call { ledger_of self.new ≡ (step (ledger_of self.old) (making_offer number pairs.now)).0 }
     {
-        let true = 1 <= number else {
+        if number == 0 {
             return Err(Refusal::OutOfRange);
-        };
-        let Some(offer) = Offer::new(pairs) else {
-            return Err(Refusal::OutOfRange);
-        };
-        let false = self.closed else {
+        }
+        let offer = Offer::new(pairs).ok_or(Refusal::OutOfRange)?;
+        if self.closed {
             return Err(Refusal::AlreadyClosed);
-        };
-        let Some(found) = self.units.find(number) else {
-            return Err(Refusal::NoSuchUnit);
-        };
-        let true = offer.prices_rise() else {
-            return Err(Refusal::PricesNotRising);
-        };
-        let mut unit = found.unit;
-        let Ok(()) = unit.offer(offer) else {
-            return Err(Refusal::SumDiffers);
-        };
-        self.units.put(found.place, unit);
+        }
+        let mut found = self.units.find(number).ok_or(Refusal::NoSuchUnit)?;
+        found.unit.offer(offer)?;
+        self.units.put(found.place, found.unit);
         Ok(())
     }
 
@@ -125,12 +117,12 @@ impl Book {
         ensures answers_as_the_ledger { answer_of result ≡ (step (ledger_of self.old) (closing price)).1 }
         ensures is_the_ledger_after_the_call { ledger_of self.new ≡ (step (ledger_of self.old) (closing price)).0 }
     {
-        let true = is_price(price) else {
+        if !is_price(price) {
             return Err(Refusal::OutOfRange);
-        };
-        let false = self.closed else {
+        }
+        if self.closed {
             return Err(Refusal::AlreadyClosed);
-        };
+        }
         self.units.close(price);
         self.closed = true;
         Ok(())

@@ -8,6 +8,7 @@ ghost use Rattle.book.specs.Choosing.{StandsIn, left_at, Entered};
 
 use crate::Book;
 use crate::standings::StandingTable;
+use arrayvec::ArrayVec;
 use lots::lot::{Filler, Lot};
 use markets::candidate::{Candidates, Left};
 use markets::choice::Choice;
@@ -16,7 +17,7 @@ use markets::market::Market;
 use markets::rule::TieRule;
 use units::figures::Figures;
 
-// What a table leaves of a lot of the unit at a place.
+// What a table leaves of a lot of the unit at a place: both are parameters, as the definitions read what stands.
 fn left_at<L: Lot>(lot: L, standing: &StandingTable, place: usize) -> Left<L>
     ensures is_the_size_less_what_stands { result ≡ left_at L.Lot.figures standing.now place lot }
 {
@@ -36,54 +37,44 @@ fn enter<L: Filler>(
 )
     requires few { length lots.now ≤ 25 }
     requires room { length (units_in candidates.old) < 32 }
-    ensures enters_the_unit { units_in candidates.new ≡ units_in candidates.old ++ (entered figures eligible (length lots.now) ∷ []) }
+    ensures enters_the_unit { units_in candidates.new ≡ units_in candidates.old ++ (entered figures eligible ∷ []) }
     ensures enters_its_lots { queues L.Lot.figures candidates.new ≡ queues L.Lot.figures candidates.old ++ (map (remaining L.Lot.figures figures) (map (left_at L.Lot.figures standing.now place) lots.now) ∷ []) }
 {
-    let nothing = Left {
-        lot: L::none(),
-        rest: 0,
-    };
-    let mut left = [nothing; 25];
-    for i in 0..lots.len() {
-        left[i] = left_at(lots[i], standing, place);
+    let mut left: ArrayVec<Left<L>, 25, L> = ArrayVec::new_in(L::none());
+    for lot in lots {
+        left.push(left_at(*lot, standing, place));
     }
-    let all = &left[..];
-    let _ = candidates.add(figures, eligible, &all[0..lots.len()]);
+    let _ = candidates.add(figures, eligible, &left);
 }
 
-impl Book {
-    // What stands of every unit.
-    pub(crate) fn standing(&self) -> StandingTable
-        ensures has_what_stands_of_every_unit { StandsIn result (ledger_of self.now) }
-    {
-        StandingTable::of(self.units.as_slice(), self.rows.as_slice())
-    }
+// A book with what stands of its units, added up once.
+#[derive(Drop)]
+pub(crate) struct Stood<'a> {
+    pub(crate) book: &'a Book,
+    pub(crate) table: StandingTable,
+    ghost stands: { StandsIn table (ledger_of book.now) },
+}
 
+impl<'a> Stood<'a> {
     // The eligible energy of all units in a market.
-    pub(crate) fn total_eligible<M: Market>(&self, market: &M, standing: &StandingTable) -> u64
-        requires { StandsIn standing.now (ledger_of self.now) }
-        ensures is_the_total { result ≡ total_eligible (M.Market.model market.now) (ledger_of self.now) }
+    pub(crate) fn total_eligible<M: Market>(&self, market: &M) -> u64
+        ensures is_the_total { result ≡ total_eligible (M.Market.model market.now) (ledger_of self.now.book.now) }
     {
         let mut total: u64 = 0;
-        for (place, entry) in self.units.as_slice().iter().enumerate() {
-            total += market.eligible(&entry.unit, &standing.sides(place)) as u64;
+        for (place, entry) in self.book.units.as_slice().iter().enumerate() {
+            total += u64::from(market.eligible(&entry.unit, &self.table.sides(place)));
         }
         total
     }
 
     // Every unit with its eligible energy, and its lots of the market's side with what is left of each,
     // where lots of this kind serve that side.
-    fn candidates<L: Filler, M: Market>(
-        &self,
-        market: &M,
-        standing: &StandingTable,
-    ) -> Candidates<L>
-        requires { StandsIn standing.now (ledger_of self.now) }
-        ensures enters_every_unit { L.Lot.serves (M.Market.model market.now).side ≡ true → Entered L.Lot.figures (M.Market.model market.now) (ledger_of self.now).units (ledger_of self.now).rows result }
+    fn candidates<L: Filler, M: Market>(&self, market: &M) -> Candidates<L>
+        ensures enters_every_unit { L.Lot.serves (M.Market.model market.now).side ≡ true → Entered L.Lot.figures (M.Market.model market.now) (ledger_of self.now.book.now).units (ledger_of self.now.book.now).rows result }
     {
         let mut candidates = Candidates::new(L::none());
-        for (place, entry) in self.units.as_slice().iter().enumerate() {
-            let eligible = market.eligible(&entry.unit, &standing.sides(place));
+        for (place, entry) in self.book.units.as_slice().iter().enumerate() {
+            let eligible = market.eligible(&entry.unit, &self.table.sides(place));
             let list = L::lots_of(market.side(), &entry.unit);
             let figures = entry.unit.figures;
             enter(
@@ -91,26 +82,35 @@ impl Book {
                 figures,
                 eligible,
                 list.as_slice(),
-                standing,
+                &self.table,
                 place,
             );
         }
         candidates
     }
 
-    // The lots that a demand takes in merit order, where a table has what stands.
-    pub(crate) fn choose_by<L: Filler, M: Market, R: TieRule>(
+    // The lots that a selection of this demand takes, in merit order, with lots of a kind that serves the market's side.
+    pub(crate) fn choose<L: Filler, M: Market, R: TieRule>(
         &self,
         market: &M,
         rule: &R,
         demand: u32,
-        standing: &StandingTable,
     ) -> Choice<L>
-        requires { StandsIn standing.now (ledger_of self.now) }
-        ensures takes_what_a_selection_takes_after_closing { self.now.closed ≡ true → L.Lot.serves (M.Market.model market.now).side ≡ true → commitments L.Lot.figures result ≡ map commitment (selection (M.Market.model market.now) (R.TieRule.model rule.now) demand (ledger_of self.now)) }
+        ensures takes_what_a_selection_takes_after_closing { self.now.book.now.closed ≡ true → L.Lot.serves (M.Market.model market.now).side ≡ true → commitments L.Lot.figures result ≡ map commitment (selection (M.Market.model market.now) (R.TieRule.model rule.now) demand (ledger_of self.now.book.now)) }
     {
-        let candidates = self.candidates(market, standing);
-        choose(candidates, rule, demand)
+        choose(self.candidates(market), rule, demand)
+    }
+}
+
+impl Book {
+    // The book with what stands of every unit.
+    pub(crate) fn stood(&self) -> Stood<'_>
+        ensures is_this_book { result.book.now ≡ self.now }
+    {
+        Stood {
+            book: self,
+            table: StandingTable::of(self.units.as_slice(), self.rows.as_slice()),
+        }
     }
 
     // The lots that a selection of this demand takes, in merit order, with lots of a kind that serves the market's side.
@@ -123,7 +123,6 @@ impl Book {
     ) -> Choice<L>
         ensures takes_what_a_selection_takes_after_closing { self.now.closed ≡ true → L.Lot.serves (M.Market.model market.now).side ≡ true → commitments L.Lot.figures result ≡ map commitment (selection (M.Market.model market.now) (R.TieRule.model rule.now) demand (ledger_of self.now)) }
     {
-        let standing = self.standing();
-        self.choose_by(market, rule, demand, &standing)
+        self.stood().choose(market, rule, demand)
     }
 }

@@ -18,7 +18,8 @@ pub mod tables;
 
 // A book: what is registered, declared, notified and offered, and what was selected of it.
 // `given` is the last number that a selection was given. It takes no memory but its own.
-// A book is always one that some list of calls leads to.
+// A book is always one that some list of calls leads to: a ghost field says so, and not a model,
+// whose invariant nobody could read who holds a book.
 #[derive(Drop)]
 pub struct Book {
     units: UnitTable,

@@ -1,4 +1,5 @@
 // Statements about the ledger: each function's contract is one.
+// They are functions for that alone: the check asks for a theorem where a contract states it.
 ghost use Rattle.std.specs.Prelude.{◌≡◌, true};
 ghost use Rattle.ledger.specs.Theorems.{RowsStandByLots, OpenLotsAreOrderly, EligibleIsLeft, SameStandingChoosesAlike, InvariantOfEveryHistory, LawsOfEveryHistory};
 ghost use Rattle.ledger.specs.Worked.{cases_hold};

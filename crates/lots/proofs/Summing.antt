@@ -32,15 +32,9 @@ sum_row n low high i b (p ∷ ps) =
     let e : b + (p.quantity + summed ps) ≡ (b + p.quantity) + summed ps = omega arith in
     rw (ih, e) (cut_at low high (n - ((b + p.quantity) + summed ps)) (n - (b + p.quantity)) (n - b) (omega arith) (omega arith))
 
-cut_low : (high a m b : ℕ) → a ≤ m → m ≤ b → (min m high - a) + (min b high - m) ≡ min b high - a
-cut_low high a m b h k = omega arith
-
 sum_band : (n i b : ℕ) (ps : List Pair) → sum_of (λ s. min (s.top - n) n - (s.bottom - n)) (stacked i b ps) ≡ min ((b + summed ps) - n) n - (b - n)
 sum_band n i b [] = omega arith
-sum_band n i b (p ∷ ps) =
-    let ih = sum_band n (i + 1) (b + p.quantity) ps in
-    let e : b + (p.quantity + summed ps) ≡ (b + p.quantity) + summed ps = omega arith in
-    rw (ih, e) (cut_low n (b - n) ((b + p.quantity) - n) (((b + p.quantity) + summed ps) - n) (omega arith) (omega arith))
+sum_band n i b (p ∷ ps) = omega (arith, sum_band n (i + 1) (b + p.quantity) ps)
 
 abbrev size_of : LotFigures → ℕ
 size_of l = l.size
@@ -55,9 +49,7 @@ sum_parts Down n ps h = sum_turned (down_lot n) (stack ps) ∙ (sum_down n 1 0 p
 sum_parts Band n ps h =
     let row : (s : Span) → sum_of size_of (map (band_lot n s) (reverse (stack ps))) ≡ min (s.top - n) n - (s.bottom - n) = λ s.
     let r = sum_turned (band_lot n s) (stack ps) ∙ sum_row n (s.bottom - n) (s.top - n) 1 0 ps in
-    let z : n - (0 + summed ps) ≡ 0 = omega arith in
-    let z' : n - 0 ≡ n = omega arith in
-    r ∙ rw (z, z') (omega arith) in
+    r ∙ omega arith in
     sum_of_joined size_of (λ s. map (band_lot n s) (reverse (stack ps))) (stack ps)
     ∙ (sum_of_same (λ s. sum_of size_of (map (band_lot n s) (reverse (stack ps)))) (λ s. min (s.top - n) n - (s.bottom - n)) row (stack ps)
     ∙ (sum_band n 1 0 ps ∙ omega arith))

@@ -1,5 +1,5 @@
 -- What spans, lots and lists of them mean as the program holds them.
-use Rattle.std.specs.Prelude.{ℕ, Bool, true, false, List, take, ℤ}
+use Rattle.std.specs.Prelude.{ℕ, Bool, true, false, List, ℤ}
 use Rattle.units.specs.declared.side.Side.{Side}
 use Rattle.units.specs.declared.side.Side.TheVariants.{Up, Down, Band}
 use Rattle.lots.specs.declared.span.Span.{Span}
@@ -13,11 +13,11 @@ use Rattle.lots.specs.Lots.{LotFigures}
 
 -- the spans that a stack holds
 abbrev pub spans_of : Stack → List Span
-spans_of s = take s.count s.spans
+spans_of s = s.spans.items
 
 -- the lots that a list holds
 abbrev pub listed : {L : Type 0} → LotList L → List L
-listed l = take l.count l.lots
+listed l = l.lots.items
 
 -- an energy lot has an upper pair or a lower one
 abbrev pub way_figures : Way → ℕ → ℕ → ℤ → LotFigures

@@ -15,14 +15,15 @@ pub mod band;
 pub mod energy;
 
 // The side on which an energy lot lies.
-#[derive(Clone, Copy)]
+#[derive(Clone, Copy, Debug, Default, PartialEq, Eq, Hash)]
 pub enum Way {
+    #[default]
     Up,
     Down,
 }
 
 // A pair's part above or below the notification: its size in megawatts, and the cost of one of them.
-#[derive(Clone, Copy)]
+#[derive(Clone, Copy, Debug, Default, PartialEq, Eq, Hash)]
 pub struct EnergyLot {
     pub way: Way,
     pub pair: u8,
@@ -31,7 +32,7 @@ pub struct EnergyLot {
 }
 
 // A run of megawatts in an upper and a lower pair at once: its size, and the cost of one of them.
-#[derive(Clone, Copy)]
+#[derive(Clone, Copy, Debug, Default, PartialEq, Eq, Hash)]
 pub struct BandLot {
     pub upper: u8,
     pub lower: u8,
@@ -39,7 +40,7 @@ pub struct BandLot {
     pub cost: i32,
 }
 
-// What is asked of a kind of lots.
+// What is asked of a kind of lots. Pairs are numbers, and 0 is none, as rows and the listing have them.
 pub trait Lot: Copy {
     // What a lot means.
     ghost figures: { Self → LotFigures };
@@ -72,6 +73,7 @@ pub trait Lot: Copy {
 }
 
 // A kind of lots with a value that is no lot: it fills room for lots.
+// It stands beside `Default`, since its contract says what the value means.
 pub trait Filler: Lot {
     // Of no pair and no megawatts.
     fn none() -> Self

@@ -1,4 +1,5 @@
 // What is proved of lots: each function's contract is one theorem.
+// They are functions for that alone: the check asks for a theorem where a contract states it.
 ghost use Rattle.lots.specs.Theorems.{LotsSumToWhatIsOffered, LotsRiseInCost, LotsAreRuns, CostsArePrices};
 
 pub fn lots_of_a_side() -> u8

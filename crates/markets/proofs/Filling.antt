@@ -1,51 +1,46 @@
 -- Filling a demand turn by turn.
 use Rattle.std.proofs.Common.{◌≡◌, ℕ, ◌+◌, ◌-◌, ◌*◌, ◌≤◌, Bool, true, false, cond, ltb, List, [], ◌∷◌, ◌++◌, map, length, sym, refl, ap, ◌∙◌, append_assoc, arith}
-use Rattle.std.specs.List.{AllByRecursion}
-use Rattle.std.proofs.ByRecursion.{All-take}
 use Rattle.std.proofs.lemmas.List.{append-nil, map-append, length-append, length-map, length-take, length-drop}
 use Rattle.std.proofs.lemmas.Bool.{cond_both, ltb-false}
 use Rattle.lots.specs.Sums.{sum_of}
 use Rattle.lots.specs.Lots.{LotFigures}
 use Rattle.lots.proofs.Lists.{sum_of-append}
-use Rattle.markets.specs.declared.candidate.Left.{Left}
 use Rattle.markets.specs.declared.candidate.Candidate.{Candidate}
+use Rattle.markets.specs.declared.candidate.Left.{Left}
 use Rattle.markets.specs.declared.candidate.Candidates.{Candidates}
 use Rattle.markets.specs.declared.choice.Chosen.{Chosen}
 use Rattle.markets.specs.declared.choice.Choice.{Choice}
 use Rattle.markets.specs.Rules.{RuleModel}
 use Rattle.markets.specs.Merit.{merit}
 use Rattle.markets.specs.Choices.{choice}
-use Rattle.markets.specs.Candidates.{queue, each_from, units_in, waiting, energy, Sound, Commitment, commitment, commitment_in, chosen_in, commitments, planned}
+use Rattle.markets.specs.Places.{most_lots}
+use Rattle.markets.specs.Candidates.{queue, waiting, energy, Sound, Commitment, commitment, commitment_in, chosen_in, commitments, planned}
 use Rattle.markets.specs.Turns.{Turn}
 use Rattle.markets.proofs.Picking.{choice_none}
 use Rattle.markets.proofs.Queues.{flat}
-use Rattle.markets.proofs.Tables.{all_few}
 
 -- ---- at most 800 lots wait
-queue_few : {L : Type 0} (meant : L → LotFigures) (T : List (Left L)) (p : ℕ) (c : Candidate) → c.count ≤ 25 → length (queue meant T p c) ≤ 25
-queue_few meant T p c h = simp (length-map, length-take, length-drop) (omega arith)
-
-queues_few : {L : Type 0} (meant : L → LotFigures) (T : List (Left L)) (p : ℕ) (cs : List Candidate) → AllByRecursion (λ c. c.count ≤ 25) cs → length (flat (each_from (queue meant T) p cs)) ≤ 25 * length cs
-queues_few meant T p [] h = omega arith
-queues_few meant T p (c ∷ cs) h =
-    omega (arith, length-append (queue meant T p c) (flat (each_from (queue meant T) (p + 1) cs)), queue_few meant T p c h.0, queues_few meant T (p + 1) cs h.1)
+few_of : {L : Type 0} (meant : L → LotFigures) (T : List (Left L)) (us : List Candidate) → most_lots us ≤ 25 → length (flat (map (queue meant T) us)) ≤ 25 * length us
+few_of meant T [] h = omega arith
+few_of meant T (c ∷ us) h =
+    let own : length (queue meant T c) ≤ c.places.end - c.places.start = simp (length-map, length-take, length-drop) (omega arith) in
+    omega (arith, few_of meant T us (omega arith), own, length-append (queue meant T c) (flat (map (queue meant T) us)))
 
 few_wait : {L : Type 0} (meant : L → LotFigures) (cs : Candidates L) → length (waiting meant cs) ≤ 800
-few_wait meant cs =
-    omega (arith, queues_few meant cs.lots 0 (units_in cs) (All-take (λ c. c.count ≤ 25) cs.count cs.units (all_few cs.units cs.few)), length-take cs.count cs.units, cs.within)
+few_wait meant cs = omega (arith, few_of meant cs.lots.items cs.units.items cs.few, cs.within)
 
 -- ---- what is chosen so far, with what is still planned, is what was planned at the start
 pub record SoFar {L : Type 0} (rule : RuleModel) (meant : L → LotFigures) (start now : Candidates L) (demand unfilled : ℕ) (r : Choice L) : Type 0 where
-  pub room : r.count + length (waiting meant now) ≤ 800
+  pub room : length (chosen_in r) + length (waiting meant now) ≤ 800
   pub whole : r.megawatts + unfilled ≡ demand
   pub summed : r.megawatts ≡ sum_of (λ c. c.megawatts) (chosen_in r)
   pub still_sound : Sound meant start → Sound meant now
   pub plan : Sound meant start → commitments meant r ++ planned rule meant now unfilled ≡ planned rule meant start demand
 
 module _ {L : Type 0} (rule : RuleModel) (meant : L → LotFigures) (start : Candidates L) (demand : ℕ) where
-  pub so_far_none : (r : Choice L) → chosen_in r ≡ [] → r.count ≡ 0 → r.megawatts ≡ 0 → SoFar rule meant start start demand demand r
-  so_far_none r e n m = record {
-    room = omega (arith, few_wait meant start);
+  pub so_far_none : (r : Choice L) → chosen_in r ≡ [] → r.megawatts ≡ 0 → SoFar rule meant start start demand demand r
+  so_far_none r e m = record {
+    room = omega (arith, few_wait meant start, ap length e);
     whole = omega arith;
     summed = m ∙ sym (ap (sum_of (λ c. c.megawatts)) e);
     still_sound = λ s. s;
@@ -64,7 +59,7 @@ module _ {L : Type 0} (rule : RuleModel) (meant : L → LotFigures) (start : Can
       (λ _. omega (arith, sum_of-append (λ (c : Chosen L). c.megawatts) xs (t ∷ []))) (λ h. omega (arith, ltb-false 0 t.megawatts h))
 
   pub so_far_more : (now now' : Candidates L) (unfilled : ℕ) (r r' : Choice L) (t : Chosen L) → SoFar rule meant start now demand unfilled r → Turn rule meant unfilled now now' t →
-      chosen_in r' ≡ cond (ltb 0 t.megawatts) (chosen_in r ++ t ∷ []) (chosen_in r) → r'.count ≤ r.count + 1 → r'.megawatts ≡ r.megawatts + t.megawatts →
+      chosen_in r' ≡ cond (ltb 0 t.megawatts) (chosen_in r ++ t ∷ []) (chosen_in r) → length (chosen_in r') ≤ length (chosen_in r) + 1 → r'.megawatts ≡ r.megawatts + t.megawatts →
       SoFar rule meant start now' demand (unfilled - t.megawatts) r'
   so_far_more now now' unfilled r r' t so one e n m = record {
     room = omega (arith, so.room, one.fewer);

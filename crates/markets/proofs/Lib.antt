@@ -5,9 +5,8 @@ pub mod Ranking
 pub mod Fronts
 pub mod Picking
 pub mod Whole
+pub mod Tables
 pub mod Queues
 pub mod Numbers
-pub mod Tables
 pub mod Turning
 pub mod Filling
-pub mod Entering

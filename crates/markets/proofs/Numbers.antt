@@ -4,19 +4,18 @@ use Rattle.std.specs.List.{AllByRecursion}
 use Rattle.std.proofs.ByRecursion.{All-get_or, All-set}
 use Rattle.std.proofs.lemmas.Bool.{eq-eqb, ne_eqb}
 use Rattle.std.proofs.lemmas.Bool.Decides.{nat_tests}
-use Rattle.markets.specs.declared.candidate.Candidate.{Candidate}
 use Rattle.markets.specs.Choices.{used}
-use Rattle.markets.specs.Candidates.{energy_among, Numbered}
+use Rattle.markets.specs.Candidates.{Entrant, energy_among, Numbered}
 
 -- c stands at a place
-abbrev pub AtPlace : List Candidate → ℕ → Candidate → Type 0
-AtPlace cs i c = (d : Candidate) → get_or cs i d ≡ c
+abbrev pub AtPlace : List Entrant → ℕ → Entrant → Type 0
+AtPlace cs i c = (d : Entrant) → get_or cs i d ≡ c
 
-abbrev number : Candidate → ℕ
+abbrev number : Entrant → ℕ
 number c = c.figures.number
 
 -- ---- the eligible energy of the unit at a place
-pub energy_at : (cs : List Candidate) (i : ℕ) (c : Candidate) → i < length cs → AtPlace cs i c → Numbered cs → energy_among cs (number c) ≡ c.eligible
+pub energy_at : (cs : List Entrant) (i : ℕ) (c : Entrant) → i < length cs → AtPlace cs i c → Numbered cs → energy_among cs (number c) ≡ c.eligible
 energy_at [] i c l e h = absurd (omega arith)
 energy_at (x ∷ cs) zero c l e h = subst (λ w. cond (eqb (number w) (number c)) w.eligible (energy_among cs (number c)) ≡ c.eligible) (sym (e c)) (rw (eq-eqb (number c) (number c) refl))
 energy_at (x ∷ cs) (suc i) c l e h =
@@ -31,7 +30,7 @@ further : (x n u e k rest rest' : ℕ) → (x ≡ n → ⊥) → rest' ≡ cond 
     cond (eqb x u) e rest' ≡ cond (eqb n u) (cond (eqb x u) e rest - k) (cond (eqb x u) e rest)
 further x n u e k rest rest' a h = grind (arith, nat_tests)
 
-pub energy-used : (cs : List Candidate) (i : ℕ) (c c' : Candidate) (k : ℕ) → i < length cs → AtPlace cs i c → number c' ≡ number c → c'.eligible ≡ c.eligible - k → Numbered cs →
+pub energy-used : (cs : List Entrant) (i : ℕ) (c c' : Entrant) (k : ℕ) → i < length cs → AtPlace cs i c → number c' ≡ number c → c'.eligible ≡ c.eligible - k → Numbered cs →
     (u : ℕ) → energy_among (set cs i c') u ≡ used (energy_among cs) (number c) k u
 energy-used [] i c c' k l e n g h u = absurd (omega arith)
 energy-used (x ∷ cs) zero c c' k l e n g h u =
@@ -41,7 +40,7 @@ energy-used (x ∷ cs) (suc i) c c' k l e n g h u =
     let a = subst (λ w. number x ≡ number w → ⊥) (e c) (All-get_or (λ b. number x ≡ number b → ⊥) cs i c (omega arith) h.0) in
     further (number x) (number c) u x.eligible k (energy_among cs u) (energy_among (set cs i c') u) a (energy-used cs i c c' k (omega arith) e n g h.1 u)
 
-pub numbered_set : (cs : List Candidate) (i : ℕ) (c c' : Candidate) → i < length cs → AtPlace cs i c → number c' ≡ number c → Numbered cs → Numbered (set cs i c')
+pub numbered_set : (cs : List Entrant) (i : ℕ) (c c' : Entrant) → i < length cs → AtPlace cs i c → number c' ≡ number c → Numbered cs → Numbered (set cs i c')
 numbered_set [] i c c' l e n h = absurd (omega arith)
 numbered_set (x ∷ cs) zero c c' l e n h = (subst (λ m. AllByRecursion (λ b. m ≡ number b → ⊥) cs) (ap number (e c) ∙ sym n) h.0, h.1)
 numbered_set (x ∷ cs) (suc i) c c' l e n h =

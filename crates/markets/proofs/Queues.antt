@@ -1,28 +1,29 @@
 -- Queues of lots, each in rising cost: the first of their heads goes before all the others.
-use Rattle.std.proofs.Common.{◌≡◌, ℕ, zero, suc, ◌+◌, ◌<◌, true, false, List, [], ◌∷◌, ◌++◌, length, get_or, set, ◌<ℤ◌, Some, None, Option, sym, refl, ap, ◌∙◌, subst, ap₂, inl, inr, arith, below_more}
+use Rattle.std.proofs.Common.{◌≡◌, ℕ, zero, suc, ◌+◌, ◌<◌, true, false, List, [], ◌∷◌, ◌++◌, map, length, get_or, set, ◌<ℤ◌, Some, None, Option, sym, refl, ap, ◌∙◌, subst, ap₂, inl, inr, arith, below_more}
 use borrow.Author.Differences.{ints}
 use Rattle.std.specs.List.{flat_map, AllByRecursion}
 use Rattle.std.specs.List.Sorted.{IsPermutation}
 use Rattle.std.proofs.ByRecursion.{All-append, All-weaker}
 use Rattle.std.proofs.lemmas.List.Sorted.{IsPermutation-refl, IsPermutation-cons, IsPermutation-trans}
-use Rattle.std.proofs.lemmas.Bool.{cases_eq}
+use Rattle.std.proofs.lemmas.Bool.{cases_eq, cond_both}
+use Rattle.std.proofs.lemmas.List.{get_or-map}
 use Rattle.lots.specs.Sums.{Pairwise}
 use Rattle.lots.specs.Lots.{LotFigures}
-use Rattle.markets.specs.declared.candidate.Front.{Front}
+use Rattle.markets.specs.declared.candidate.Left.{Left}
+use Rattle.markets.specs.declared.candidate.Candidate.{Candidate}
+use Rattle.markets.specs.declared.candidate.turns.Front.{Front}
 use Rattle.markets.specs.Rules.{RuleModel}
 use Rattle.markets.specs.Remainders.{Remaining, Orderly}
 use Rattle.markets.specs.Merit.{before}
-use Rattle.markets.specs.Candidates.{Rising}
-use Rattle.markets.specs.Turns.{seen, Heads, Behind, Leader, Leads}
+use Rattle.markets.specs.Candidates.{queue, Rising}
+use Rattle.markets.specs.Turns.{seen, Stands, Heads, earlier, Behind, Leader, Leads}
 use Rattle.markets.proofs.Members.{shuffled_out}
+use Rattle.markets.proofs.Tables.{no_head}
 use Rattle.markets.proofs.Ranking.{Rivals, rivals, rivals_back, cheap, before_total, before_on, before_cheaper}
 
 -- all lots of some queues
 abbrev pub flat : {X : Type 0} → List (List X) → List X
 flat qs = flat_map (λ q. q) qs
-
-pub no_head : {X : Type 0} (x : X) (xs : List X) → [] ≡ x ∷ xs → ⊥
-no_head x xs e = let z : ◌≡◌ {A = ℕ} 0 1 = ap length e ∙ cc in omega arith
 
 -- ---- parts of lists that are joined
 all_right : {X : Type 0} (P : X → Type 0) (xs ys : List X) → AllByRecursion P (xs ++ ys) → AllByRecursion P ys
@@ -97,7 +98,7 @@ module _ {L : Type 0} (rule : RuleModel) (meant : L → LotFigures) (qs : List (
   heads_rival : (i j : ℕ) (l m : Remaining) (ls ms : List Remaining) → get_or qs i [] ≡ l ∷ ls → get_or qs j [] ≡ m ∷ ms → (i ≡ j → ⊥) → Orderly (flat qs) → Rivals l m
   heads_rival i j l m ls ms e f n o = heads_both Rivals rivals_back qs i j l m ls ms e f n (rivals (flat qs) o)
 
-  pub leads_skip : (i : ℕ) (best : Option (Front L)) → Leads rule meant qs i best → get_or qs i [] ≡ [] → Leads rule meant qs (i + 1) best
+  leads_skip : (i : ℕ) (best : Option (Front L)) → Leads rule meant qs i best → get_or qs i [] ≡ [] → Leads rule meant qs (i + 1) best
   leads_skip i None h e = below_more (λ j. get_or qs j [] ≡ []) i h e
   leads_skip i (Some f) h e = record {
     below = omega (arith, h.below);
@@ -105,48 +106,66 @@ module _ {L : Type 0} (rule : RuleModel) (meant : L → LotFigures) (qs : List (
     leads = λ o. below_more (λ j. (j ≡ f.place → ⊥) → Behind rule (seen meant f) (get_or qs j [])) i (h.leads o) (λ n. subst (Behind rule (seen meant f)) (sym e) tt);
   }
 
-  pub leads_first : (i : ℕ) (f : Front L) → Leads rule meant qs i None → Heads meant qs i (Some f) → Leader rule meant qs (i + 1) f
+  -- f is the head of the queue at a place
+  at_place : (i : ℕ) (f : Front L) → Heads meant (get_or qs i []) i (Some f) → Stands meant qs f
+  at_place i f e = (e.1.0, subst (λ k. get_or qs k [] ≡ seen meant f ∷ e.1.0) (sym e.0) e.1.1)
+
+  leads_first : (i : ℕ) (f : Front L) → Leads rule meant qs i None → Heads meant (get_or qs i []) i (Some f) → Leader rule meant qs (i + 1) f
   leads_first i f h e = record {
     below = omega (arith, e.0);
-    stands = e.1;
+    stands = at_place i f e;
     leads = λ o. below_more (λ j. (j ≡ f.place → ⊥) → Behind rule (seen meant f) (get_or qs j [])) i (λ j k n. subst (Behind rule (seen meant f)) (sym (h j k)) tt) (λ n. absurd (n (sym e.0)));
   }
 
-  pub leads_keep : (i : ℕ) (f held : Front L) → Leader rule meant qs i held → Heads meant qs i (Some f) → false ≡ before rule (seen meant f) (seen meant held) → Leader rule meant qs (i + 1) held
-  leads_keep i f held h e b =
-      let at : get_or qs i [] ≡ seen meant f ∷ e.1.0 = subst (λ k. get_or qs k [] ≡ seen meant f ∷ e.1.0) e.0 e.1.1 in
-      record {
-        below = omega (arith, h.below);
-        stands = h.stands;
-        leads = λ o. below_more (λ j. (j ≡ held.place → ⊥) → Behind rule (seen meant held) (get_or qs j [])) i (h.leads o)
-            (λ n. subst (Behind rule (seen meant held)) (sym at)
-            (before_total rule (seen meant f) (seen meant held) (heads_rival i held.place (seen meant f) (seen meant held) e.1.0 h.stands.0 at h.stands.1 n o) (sym b)));
-      }
+  leads_keep : (i : ℕ) (f held : Front L) → Leader rule meant qs i held → Heads meant (get_or qs i []) i (Some f) → before rule (seen meant f) (seen meant held) ≡ false → Leader rule meant qs (i + 1) held
+  leads_keep i f held h e b = record {
+    below = omega (arith, h.below);
+    stands = h.stands;
+    leads = λ o. below_more (λ j. (j ≡ held.place → ⊥) → Behind rule (seen meant held) (get_or qs j [])) i (h.leads o)
+        (λ n. subst (Behind rule (seen meant held)) (sym e.1.1)
+        (before_total rule (seen meant f) (seen meant held) (heads_rival i held.place (seen meant f) (seen meant held) e.1.0 h.stands.0 e.1.1 h.stands.1 n o) b));
+  }
 
-  pub leads_change : (i : ℕ) (f held : Front L) → Leader rule meant qs i held → Heads meant qs i (Some f) → true ≡ before rule (seen meant f) (seen meant held) → Leader rule meant qs (i + 1) f
+  leads_change : (i : ℕ) (f held : Front L) → Leader rule meant qs i held → Heads meant (get_or qs i []) i (Some f) → before rule (seen meant f) (seen meant held) ≡ true → Leader rule meant qs (i + 1) f
   leads_change i f held h e b =
       let l = seen meant f in
       let k = seen meant held in
       let p = held.place in
       let ls = e.1.0 in
       let ks = h.stands.0 in
-      let at : get_or qs i [] ≡ l ∷ ls = subst (λ j. get_or qs j [] ≡ l ∷ ls) e.0 e.1.1 in
+      let at = e.1.1 in
       let lower : p < i = h.below in
       let over : Orderly (flat qs) → (j : ℕ) → j < i → Behind rule l (get_or qs j []) = λ o j q.
       elim (cases_eq j p) [
-        | inl z ↦ subst (Behind rule l) (sym (ap (λ w. get_or qs w []) z ∙ h.stands.1)) (sym b)
+        | inl z ↦ subst (Behind rule l) (sym (ap (λ w. get_or qs w []) z ∙ h.stands.1)) b
         | inr n ↦ behind_of rule l (get_or qs j []) (λ m ms s.
             before_on rule l k m
             (heads_rival i p l k ls ks at h.stands.1 (λ z. omega arith) o)
             (heads_rival p j k m ks ms h.stands.1 s (λ z. n (sym z)) o)
             (heads_rival i j l m ls ms at s (λ z. omega arith) o)
-            (sym b) (subst (Behind rule k) s (h.leads o j q n)))
+            b (subst (Behind rule k) s (h.leads o j q n)))
       ] in
       record {
         below = omega (arith, e.0);
-        stands = e.1;
+        stands = at_place i f e;
         leads = λ o. below_more (λ j. (j ≡ f.place → ⊥) → Behind rule l (get_or qs j [])) i (λ j q n. over o j q) (λ n. absurd (n (sym e.0)));
       }
+
+  pub leads_more : (i : ℕ) (best next : Option (Front L)) → Leads rule meant qs i best → Heads meant (get_or qs i []) i next → Leads rule meant qs (i + 1) (earlier rule meant best next)
+  leads_more i None None h e = leads_skip i None h e
+  leads_more i (Some held) None h e = leads_skip i (Some held) h e
+  leads_more i None (Some f) h e = leads_first i f h e
+  leads_more i (Some held) (Some f) h e =
+      cond_both (before rule (seen meant f) (seen meant held)) (Some f) (Some held) (Leads rule meant qs (i + 1)) (leads_change i f held h e) (leads_keep i f held h e)
+
+-- the same over the queues of units, of which the one at the place is read
+pub leads_unit : {L : Type 0} (rule : RuleModel) (meant : L → LotFigures) (T : List (Left L)) (us xs : List Candidate) (i : ℕ) (d : Candidate) (best next : Option (Front L)) →
+    xs ≡ us → i < length xs → Leads rule meant (map (queue meant T) us) i best → Heads meant (queue meant T (get_or xs i d)) i next →
+    Leads rule meant (map (queue meant T) us) (i + 1) (earlier rule meant best next)
+leads_unit rule meant T us xs i d best next same h lead head =
+    let at : get_or (map (queue meant T) us) i [] ≡ queue meant T (get_or xs i d) =
+    get_or-map (queue meant T) us i d [] (omega (arith, h, ap length same)) ∙ ap (λ ys. queue meant T (get_or ys i d)) (sym same) in
+    leads_more rule meant (map (queue meant T) us) i best next lead (subst (λ q. Heads meant q i next) (sym at) head)
 
 -- no queue has a head
 pub all_empty : {X : Type 0} (qs : List (List X)) → ((j : ℕ) → j < length qs → get_or qs j [] ≡ []) → flat qs ≡ []

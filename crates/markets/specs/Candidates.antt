@@ -1,5 +1,5 @@
 -- The units of a selection with their lots, as the program holds them.
-use Rattle.std.specs.Prelude.{ℕ, ◌+◌, ◌-◌, ◌*◌, cond, List, [], ◌∷◌, map, take, drop, ℤ, ◌<ℤ◌, ◌==◌, ◌≢◌}
+use Rattle.std.specs.Prelude.{ℕ, cond, List, [], ◌∷◌, map, slice_range, ℤ, ◌<ℤ◌, ◌==◌, ◌≢◌}
 use Rattle.std.specs.List.{flat_map, AllByRecursion}
 use Rattle.units.specs.declared.figures.Figures.{Figures}
 use Rattle.lots.specs.Sums.{Pairwise}
@@ -18,39 +18,41 @@ use Rattle.markets.specs.Choices.{Taken, choice}
 abbrev pub remaining : {L : Type 0} → (L → LotFigures) → Figures → Left L → Remaining
 remaining meant f l = record { figures = f; up = (meant l.lot).up; down = (meant l.lot).down; cost = (meant l.lot).cost; rest = l.rest }
 
--- a unit with this many lots, none of them looked at
-abbrev pub entered : Figures → ℕ → ℕ → Candidate
-entered f eligible lots = record { figures = f; eligible = eligible; next = 0; count = lots }
+-- a unit as it stands among candidates: its registered figures and its unused eligible energy
+pub record Entrant : Type 0 where
+  pub figures : Figures
+  pub eligible : ℕ
 
--- the lots that the unit at a place still has to offer; 25 places of the table are its own
-abbrev pub own_lots : {L : Type 0} → List (Left L) → ℕ → Candidate → List (Left L)
-own_lots table place c = take (c.count - c.next) (drop (25 * place + c.next) table)
+abbrev pub entered : Figures → ℕ → Entrant
+entered f eligible = record { figures = f; eligible = eligible }
+
+abbrev pub entrant : Candidate → Entrant
+entrant c = entered c.figures c.eligible
+
+-- the lots of a table that a unit still has to offer
+abbrev pub own_lots : {L : Type 0} → List (Left L) → Candidate → List (Left L)
+own_lots table c = slice_range table c.places.start c.places.end
 
 -- the same as choosing sees them
-abbrev pub queue : {L : Type 0} → (L → LotFigures) → List (Left L) → ℕ → Candidate → List Remaining
-queue meant table place c = map (remaining meant c.figures) (own_lots table place c)
+abbrev pub queue : {L : Type 0} → (L → LotFigures) → List (Left L) → Candidate → List Remaining
+queue meant table c = map (remaining meant c.figures) (own_lots table c)
 
--- what f gives for each unit and its place, from a place on
-abbrev pub each_from : {Y : Type 0} → (ℕ → Candidate → Y) → ℕ → List Candidate → List Y
-each_from f place [] = []
-each_from f place (c ∷ cs) = f place c ∷ each_from f (place + 1) cs
-
-abbrev pub units_in : {L : Type 0} → Candidates L → List Candidate
-units_in cs = take cs.count cs.units
+abbrev pub units_in : {L : Type 0} → Candidates L → List Entrant
+units_in cs = map entrant cs.units.items
 
 -- the lots that each candidate still has to offer
 abbrev pub owned : {L : Type 0} → Candidates L → List (List (Left L))
-owned cs = each_from (own_lots cs.lots) 0 (units_in cs)
+owned cs = map (own_lots cs.lots.items) cs.units.items
 
 abbrev pub queues : {L : Type 0} → (L → LotFigures) → Candidates L → List (List Remaining)
-queues meant cs = each_from (queue meant cs.lots) 0 (units_in cs)
+queues meant cs = map (queue meant cs.lots.items) cs.units.items
 
 -- the lots of all candidates that are still to be chosen from
 abbrev pub waiting : {L : Type 0} → (L → LotFigures) → Candidates L → List Remaining
 waiting meant cs = flat_map (λ q. q) (queues meant cs)
 
 -- the unused eligible energy of the unit with this number
-abbrev pub energy_among : List Candidate → ℕ → ℕ
+abbrev pub energy_among : List Entrant → ℕ → ℕ
 energy_among [] u = 0
 energy_among (c ∷ cs) u = cond (c.figures.number == u) c.eligible (energy_among cs u)
 
@@ -62,7 +64,7 @@ abbrev pub Rising : List Remaining → Type 0
 Rising ls = Pairwise (λ a b. a.cost <ℤ b.cost) ls
 
 -- no two candidates have one number
-abbrev pub Numbered : List Candidate → Type 0
+abbrev pub Numbered : List Entrant → Type 0
 Numbered cs = Pairwise (λ a b. a.figures.number ≢ b.figures.number) cs
 
 -- what choosing may count on: lots of accepted units that differ, each unit's in rising cost, and units of different numbers
@@ -86,7 +88,7 @@ abbrev pub commitment_in : {L : Type 0} → (L → LotFigures) → Chosen L → 
 commitment_in meant c = record { unit = c.unit; up = (meant c.lot).up; down = (meant c.lot).down; cost = (meant c.lot).cost; megawatts = c.megawatts }
 
 abbrev pub chosen_in : {L : Type 0} → Choice L → List (Chosen L)
-chosen_in c = take c.count c.lots
+chosen_in c = c.lots.items
 
 -- what a choice of the program commits, in order
 abbrev pub commitments : {L : Type 0} → (L → LotFigures) → Choice L → List Commitment

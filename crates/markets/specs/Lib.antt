@@ -11,5 +11,6 @@ pub mod Remainders
 pub mod Merit
 pub mod Choices
 pub mod Choosing
+pub mod Places
 pub mod Candidates
 pub mod Turns

@@ -2,8 +2,8 @@
 use Rattle.units.specs.declared.side.Side.TheVariants.{Up, Down, Band as Both}
 use Rattle.units.specs.declared.side.MarketNumber.{MarketNumber}
 use Rattle.units.specs.declared.side.MarketNumber.TheVariants.{Band, FastUp, FastDown, SlowUp, SlowDown}
-use Rattle.markets.specs.declared.either.Either.{Either}
-use Rattle.markets.specs.declared.either.Either.TheVariants.{Left, Right}
+use Rattle.either.specs.declared.Either.{Either}
+use Rattle.either.specs.declared.Either.TheVariants.{Left, Right}
 use Rattle.markets.specs.declared.rule.ByNumber.{ByNumber}
 use Rattle.markets.specs.declared.rule.Faster.{Faster}
 use Rattle.markets.specs.declared.rule.PriorityLast.{PriorityLast}

@@ -2,7 +2,7 @@
 use Rattle.std.specs.Prelude.{◌≡◌, ℕ, ◌+◌, ◌-◌, ◌<◌, ◌≤◌, true, cond, List, [], ◌∷◌, length, Some, None, Option, ◌≢◌, nat_lt, slice_index_or}
 use Rattle.std.specs.List.{flat_map}
 use Rattle.lots.specs.Lots.{LotFigures}
-use Rattle.markets.specs.declared.candidate.Front.{Front}
+use Rattle.markets.specs.declared.candidate.turns.Front.{Front}
 use Rattle.markets.specs.declared.candidate.Candidates.{Candidates}
 use Rattle.markets.specs.declared.choice.Chosen.{Chosen}
 use Rattle.markets.specs.Rules.{RuleModel}
@@ -17,10 +17,16 @@ seen meant f = remaining meant f.figures f.left
 abbrev pub Stands : {L : Type 0} → (L → LotFigures) → List (List Remaining) → Front L → Type 0
 Stands meant qs f = (rest : List Remaining) × (slice_index_or qs f.place [] ≡ seen meant f ∷ rest)
 
--- what is first in the queue at a place
-abbrev pub Heads : {L : Type 0} → (L → LotFigures) → List (List Remaining) → ℕ → Option (Front L) → Type 0
-Heads meant qs place None = slice_index_or qs place [] ≡ []
-Heads meant qs place (Some f) = (f.place ≡ place) × Stands meant qs f
+-- what is first in a queue that stands at a place
+abbrev pub Heads : {L : Type 0} → (L → LotFigures) → List Remaining → ℕ → Option (Front L) → Type 0
+Heads meant q place None = q ≡ []
+Heads meant q place (Some f) = (f.place ≡ place) × ((rest : List Remaining) × (q ≡ seen meant f ∷ rest))
+
+-- of two lots the one that goes first, and where there is one, that one
+abbrev pub earlier : {L : Type 0} → RuleModel → (L → LotFigures) → Option (Front L) → Option (Front L) → Option (Front L)
+earlier rule meant None next = next
+earlier rule meant (Some held) None = Some held
+earlier rule meant (Some held) (Some next) = cond (before rule (seen meant next) (seen meant held)) (Some next) (Some held)
 
 -- l goes before the first of a queue
 abbrev pub Behind : RuleModel → Remaining → List Remaining → Type 0

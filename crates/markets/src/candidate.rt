@@ -1,44 +1,67 @@
 // The units of a selection with their lots.
-ghost use Rattle.std.specs.Prelude.{◌≡◌, ◌≤◌, length};
-ghost use Rattle.std.specs.List.{AllByRecursion};
+ghost use Rattle.std.specs.Prelude.{◌*◌, ◌≤◌, length, Some, codes};
+ghost use Rattle.markets.specs.Places.{furthest, most_lots};
 
+use arrayvec::{ArrayVec, CapacityError};
+use std::default::MadeWith;
+use std::error::Error;
+use std::fmt;
+use std::ops::Range;
 use units::figures::Figures;
 
 mod acts;
 mod turns;
 
 // A lot of some kind, and what is left of it.
-#[derive(Clone, Copy)]
+#[derive(Clone, Copy, Debug, PartialEq, Eq, Hash)]
 pub struct Left<L> {
     pub lot: L,
     pub rest: u32,
 }
 
-// A unit: its registered figures, its unused eligible energy, how many lots it has and how many of them were looked at.
-#[derive(Clone, Copy)]
-pub struct Candidate {
-    pub figures: Figures,
-    pub eligible: u32,
-    pub next: usize,
-    pub count: usize,
+impl<L: Copy> MadeWith<L> for Left<L> {
+    fn made_with(lot: L) -> Left<L> {
+        Left { lot, rest: 0 }
+    }
 }
 
-// Up to 32 units of up to 25 lots. The lots of the unit at a place stand from 25 times the place on, in rising cost.
+// A unit: its registered figures, its unused eligible energy, and the places of its lots that were not looked at yet.
+#[derive(Debug, Default, PartialEq, Eq, Hash, Drop)]
+pub struct Candidate {
+    figures: Figures,
+    eligible: u32,
+    places: Range<usize>,
+}
+
+// Up to 32 units of up to 25 lots, each unit's in rising cost.
+// Places in one table stay for speed: with a table of lots in each unit, choosing a small demand took twice the time.
 #[derive(Drop)]
 pub struct Candidates<L> {
-    units: [Candidate; 32],
-    count: usize,
-    lots: [Left<L>; 800],
-    ghost within: { count ≤ 32 },
-    ghost all_units: { length units ≡ 32 },
-    ghost all_lots: { length lots ≡ 800 },
-    ghost few: { ∥ AllByRecursion (λ c. c.count ≤ 25) units ∥₁ },
+    units: ArrayVec<Candidate, 32>,
+    lots: ArrayVec<Left<L>, 800, L>,
+    ghost within: { length units.items ≤ 32 },
+    ghost room: { length lots.items ≤ 25 * length units.items },
+    ghost inside: { furthest units.items ≤ length lots.items },
+    ghost few: { most_lots units.items ≤ 25 },
 }
 
-// The next lot of the unit at a place, with the unit's figures.
-#[derive(Clone, Copy)]
-struct Front<L> {
-    place: usize,
-    figures: Figures,
-    left: Left<L>,
+// A unit that cannot be added: 32 units stand, or it has more than 25 lots.
+#[derive(Clone, Copy, Debug, PartialEq, Eq, Hash)]
+pub struct NoRoom;
+
+// By hand, since its contract says what it prints.
+impl fmt::Display for NoRoom {
+    ghost output = { λ _. Some (codes "no room for the unit or its lots") };
+
+    fn fmt<W: fmt::Write>(&self, f: &mut fmt::Formatter<W>) -> fmt::Result {
+        f.write_str("no room for the unit or its lots")
+    }
+}
+
+impl Error for NoRoom {}
+
+impl From<CapacityError> for NoRoom {
+    fn from(_: CapacityError) -> NoRoom {
+        NoRoom
+    }
 }

@@ -4,8 +4,9 @@
 pub mod candidate;
 pub mod choice;
 pub mod choose;
-pub mod either;
 pub mod market;
 pub mod rule;
 pub mod stack;
 pub mod theorems;
+
+pub use either;

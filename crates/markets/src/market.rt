@@ -1,16 +1,19 @@
 // Markets.
-ghost use Rattle.std.specs.Prelude.{◌≡◌, ◌≤◌, ◌||◌};
+ghost use Rattle.std.specs.Prelude.{◌≡◌, ◌-◌, ◌||◌, min};
 ghost use Rattle.units.specs.Units.{state_of};
 ghost use Rattle.markets.specs.Models.{MarketModel};
-ghost use Rattle.markets.specs.Energy.{nil, below_minimum, up_eligible, down_eligible, band_eligible};
+ghost use Rattle.markets.specs.Either.{by_cases};
+ghost use Rattle.markets.specs.Energy.{ramp, nil, below_minimum, band_eligible};
 ghost use Rattle.markets.specs.Markets.{up_market, down_market, band_market};
 
+use either::{Either, for_both};
 use lots::standing::Standing;
 use units::figures::Class;
 use units::side::Side;
 use units::unit::GeneratingUnit;
 
 // A market tells its side, which is one for all units, and the eligible energy of a unit.
+// A unit and what stands of it are two parameters: callers have them apart.
 pub trait Market {
     ghost model: { Self → MarketModel };
 
@@ -28,36 +31,16 @@ fn is_idle(unit: &GeneratingUnit) -> bool
     if unit.notification == 0 {
         return true;
     }
-    match unit.figures.class {
-        Class::Thermal => unit.notification < unit.figures.minimum,
-        Class::Other => false,
-    }
+    unit.figures.class == Class::Thermal && unit.notification < unit.figures.minimum
 }
 
-fn up_energy(minutes: u32, unit: &GeneratingUnit, standing: &Standing) -> u32
-    requires { minutes ≤ 30 }
-    ensures is_the_eligible_energy { result ≡ up_eligible minutes (state_of unit.now) standing.now }
+// What a unit reaches in so many minutes at a rate, as far as the room that the band leaves, less what stands.
+fn reached(minutes: u16, rate: u16, room: u16, band: u32, stood: u32) -> u32
+    ensures is_the_lesser_less_what_stands { result ≡ min (ramp minutes rate) (room - band) - stood }
 {
-    if is_idle(unit) {
-        return 0;
-    }
-    let ramp = minutes * unit.figures.up_rate as u32;
-    let above = unit.availability.saturating_sub(unit.notification) as u32;
-    let free_above = above.saturating_sub(standing.band);
-    ramp.min(free_above).saturating_sub(standing.up)
-}
-
-fn down_energy(minutes: u32, unit: &GeneratingUnit, standing: &Standing) -> u32
-    requires { minutes ≤ 30 }
-    ensures is_the_eligible_energy { result ≡ down_eligible minutes (state_of unit.now) standing.now }
-{
-    if is_idle(unit) {
-        return 0;
-    }
-    let ramp = minutes * unit.figures.down_rate as u32;
-    let below = unit.notification.saturating_sub(unit.figures.minimum) as u32;
-    let free_below = below.saturating_sub(standing.band);
-    ramp.min(free_below).saturating_sub(standing.down)
+    let ramp = u32::from(minutes) * u32::from(rate);
+    let free = u32::from(room).saturating_sub(band);
+    ramp.min(free).saturating_sub(stood)
 }
 
 fn band_energy(unit: &GeneratingUnit, standing: &Standing) -> u32
@@ -72,11 +55,11 @@ fn band_energy(unit: &GeneratingUnit, standing: &Standing) -> u32
     if half < unit.figures.smallest_band / 2 {
         return 0;
     }
-    (half as u32).saturating_sub(standing.band)
+    u32::from(half).saturating_sub(standing.band)
 }
 
 // Market 1: secondary regulation band.
-#[derive(Clone, Copy)]
+#[derive(Clone, Copy, Debug, PartialEq, Eq, Hash)]
 pub struct Band;
 
 impl Market for Band {
@@ -91,66 +74,89 @@ impl Market for Band {
     }
 }
 
-// Market 2: fast energy up, within 15 minutes.
-#[derive(Clone, Copy)]
-pub struct FastUp;
+// Energy up, within so many minutes. Up and down are two types: they differ in the side, the rate, the room
+// and what stands, and one type for both would `match` at each.
+#[derive(Clone, Copy, Debug, PartialEq, Eq, Hash)]
+pub struct UpWithin<const MINUTES: u16>;
 
-impl Market for FastUp {
-    ghost model = { λ _. up_market 15 };
+impl<const MINUTES: u16> Market for UpWithin<MINUTES> {
+    ghost model = { λ _. up_market MINUTES };
 
     fn side(&self) -> Side {
         Side::Up
     }
 
     fn eligible(&self, unit: &GeneratingUnit, standing: &Standing) -> u32 {
-        up_energy(15, unit, standing)
+        if is_idle(unit) {
+            return 0;
+        }
+        let above = unit.availability.saturating_sub(unit.notification);
+        reached(
+            MINUTES,
+            unit.figures.up_rate,
+            above,
+            standing.band,
+            standing.up,
+        )
     }
 }
+
+// Energy down, within so many minutes.
+#[derive(Clone, Copy, Debug, PartialEq, Eq, Hash)]
+pub struct DownWithin<const MINUTES: u16>;
+
+impl<const MINUTES: u16> Market for DownWithin<MINUTES> {
+    ghost model = { λ _. down_market MINUTES };
+
+    fn side(&self) -> Side {
+        Side::Down
+    }
+
+    fn eligible(&self, unit: &GeneratingUnit, standing: &Standing) -> u32 {
+        if is_idle(unit) {
+            return 0;
+        }
+        let below = unit.notification.saturating_sub(unit.figures.minimum);
+        reached(
+            MINUTES,
+            unit.figures.down_rate,
+            below,
+            standing.band,
+            standing.down,
+        )
+    }
+}
+
+// Market 2: fast energy up, within 15 minutes.
+pub type FastUp = UpWithin<15>;
 
 // Market 3: fast energy down, within 15 minutes.
-#[derive(Clone, Copy)]
-pub struct FastDown;
-
-impl Market for FastDown {
-    ghost model = { λ _. down_market 15 };
-
-    fn side(&self) -> Side {
-        Side::Down
-    }
-
-    fn eligible(&self, unit: &GeneratingUnit, standing: &Standing) -> u32 {
-        down_energy(15, unit, standing)
-    }
-}
+pub type FastDown = DownWithin<15>;
 
 // Market 4: slow energy up, within 30 minutes.
-#[derive(Clone, Copy)]
-pub struct SlowUp;
-
-impl Market for SlowUp {
-    ghost model = { λ _. up_market 30 };
-
-    fn side(&self) -> Side {
-        Side::Up
-    }
-
-    fn eligible(&self, unit: &GeneratingUnit, standing: &Standing) -> u32 {
-        up_energy(30, unit, standing)
-    }
-}
+pub type SlowUp = UpWithin<30>;
 
 // Market 5: slow energy down, within 30 minutes.
-#[derive(Clone, Copy)]
-pub struct SlowDown;
+pub type SlowDown = DownWithin<30>;
 
-impl Market for SlowDown {
-    ghost model = { λ _. down_market 30 };
+// The markets as values.
+pub const FAST_UP: FastUp = UpWithin;
+
+pub const FAST_DOWN: FastDown = DownWithin;
+
+pub const SLOW_UP: SlowUp = UpWithin;
+
+pub const SLOW_DOWN: SlowDown = DownWithin;
+
+// One of two markets.
+impl<A: Market, B: Market> Market for Either<A, B> {
+    ghost model = { by_cases A.Market.model B.Market.model };
 
     fn side(&self) -> Side {
-        Side::Down
+        for_both!(self, market => market.side())
     }
 
     fn eligible(&self, unit: &GeneratingUnit, standing: &Standing) -> u32 {
-        down_energy(30, unit, standing)
+        for_both!(self, market => market.eligible(unit, standing))
     }
 }

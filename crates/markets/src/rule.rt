@@ -1,8 +1,11 @@
 // Tie rules.
 ghost use Rattle.std.specs.Prelude.{◌≡◌};
 ghost use Rattle.markets.specs.Rules.{RuleModel};
+ghost use Rattle.markets.specs.Either.{by_cases};
 ghost use Rattle.markets.specs.Layers.{by_number, faster, priority_last, rate_of, without_priority};
 
+use either::{Either, for_both};
+use std::cmp::Ordering;
 use units::figures::Figures;
 use units::side::Side;
 
@@ -15,7 +18,7 @@ pub trait TieRule {
 }
 
 // The bottom rule: the lower number goes first.
-#[derive(Clone, Copy)]
+#[derive(Clone, Copy, Debug, PartialEq, Eq, Hash)]
 pub struct ByNumber;
 
 impl TieRule for ByNumber {
@@ -27,7 +30,7 @@ impl TieRule for ByNumber {
 }
 
 // Faster first: by the rate of a side, and the rule below where both are as fast.
-#[derive(Clone, Copy)]
+#[derive(Clone, Copy, Debug, PartialEq, Eq, Hash)]
 pub struct Faster<R> {
     pub side: Side,
     pub below: R,
@@ -46,20 +49,16 @@ impl<R: TieRule> TieRule for Faster<R> {
     ghost model = { λ s. faster s.side (R.TieRule.model s.below) };
 
     fn first(&self, a: &Figures, b: &Figures) -> bool {
-        let of_a = rate(self.side, a);
-        let of_b = rate(self.side, b);
-        if of_b < of_a {
-            return true;
+        match rate(self.side, a).cmp(&rate(self.side, b)) {
+            Ordering::Greater => true,
+            Ordering::Less => false,
+            Ordering::Equal => self.below.first(a, b),
         }
-        if of_a < of_b {
-            return false;
-        }
-        self.below.first(a, b)
     }
 }
 
 // Priority last: a unit without priority goes before one with it, and the rule below where both are alike.
-#[derive(Clone, Copy)]
+#[derive(Clone, Copy, Debug, PartialEq, Eq, Hash)]
 pub struct PriorityLast<R> {
     pub below: R,
 }
@@ -72,5 +71,14 @@ impl<R: TieRule> TieRule for PriorityLast<R> {
             return b.marks.priority && self.below.first(a, b);
         }
         b.marks.priority || self.below.first(a, b)
+    }
+}
+
+// One of two rules.
+impl<A: TieRule, B: TieRule> TieRule for Either<A, B> {
+    ghost model = { by_cases A.TieRule.model B.TieRule.model };
+
+    fn first(&self, a: &Figures, b: &Figures) -> bool {
+        for_both!(self, rule => rule.first(a, b))
     }
 }

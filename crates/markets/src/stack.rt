@@ -2,8 +2,8 @@
 ghost use Rattle.std.specs.Prelude.{◌≡◌};
 ghost use Rattle.markets.specs.Stacks.{stack_of, stack_model};
 
-use crate::either::Either;
 use crate::rule::{ByNumber, Faster, PriorityLast};
+use either::Either;
 use units::side::{MarketNumber, Side};
 
 // Faster over number, and priority over that.

@@ -59,5 +59,6 @@ abbrev pub decode_known : Option Kind → List ℕ → Result Call ℕ
 decode_known None body = Err 19
 decode_known (Some kind) body = decode_kind kind body
 
+-- what a record of the kind with this number and with this body asks for
 abbrev pub decode_of : ℕ → List ℕ → Result Call ℕ
 decode_of kind body = decode_known (kind_of kind) body

@@ -12,9 +12,11 @@ layer_number Frame = 1
 layer_number Record = 2
 layer_number Book = 3
 
+-- a fault by its figures
 abbrev pub fault_figures : Fault → FaultFigures
 fault_figures f = fault (number_of f.refusal) (layer_number f.layer) f.offset
 
+-- the figures of the fault, if there is one
 abbrev pub fault_of : Option Fault → Option FaultFigures
 fault_of None = None
 fault_of (Some f) = Some (fault_figures f)

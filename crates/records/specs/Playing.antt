@@ -11,6 +11,7 @@ pub record FaultFigures : Type 0 where
   pub layer : ℕ
   pub offset : ℕ
 
+-- the fault with these figures
 abbrev pub fault : ℕ → ℕ → ℕ → FaultFigures
 fault number layer offset = record { number = number; layer = layer; offset = offset }
 
@@ -58,6 +59,6 @@ played_from (suc fuel) bytes offset l = from_next offset l (next_at bytes offset
 abbrev pub played_on : Ledger → List ℕ → Outcome
 played_on l bytes = played_from (length bytes + 1) bytes 0 l
 
--- and on an empty one
+-- the records of all the bytes, on an empty ledger
 abbrev pub played : List ℕ → Outcome
 played bytes = played_on empty bytes

@@ -42,46 +42,29 @@ fn take_up(book: &mut Book, offset: usize, found: Result<Frame<'_>, Refusal>) ->
     ensures stopped_by_the_first_layer { stopped_by result ≡ (taken_up offset (ledger_of book.old) (framed found.entry)).1 }
     ensures is_the_ledger_after_the_record { ledger_of book.new ≡ (taken_up offset (ledger_of book.old) (framed found.entry)).0 }
 {
-    let frame = match found {
-        Ok(frame) => frame,
-        Err(refusal) => return Err(Fault {
-            refusal,
-            layer: Layer::Frame,
-            offset,
-        }),
+    let fault = |layer, refusal| Fault {
+        refusal,
+        layer,
+        offset,
     };
-    let record = match decode(frame.kind, frame.body) {
-        Ok(record) => record,
-        Err(refusal) => return Err(Fault {
-            refusal,
-            layer: Layer::Record,
-            offset,
-        }),
-    };
-    match carry_out(book, &record) {
-        Ok(()) => Ok(()),
-        Err(refusal) => Err(Fault {
-            refusal,
-            layer: Layer::Book,
-            offset,
-        }),
-    }
+    let frame = found.map_err(|refusal| fault(Layer::Frame, refusal))?;
+    let record = decode(frame.kind, frame.body).map_err(|refusal| fault(Layer::Record, refusal))?;
+    carry_out(book, &record).map_err(|refusal| fault(Layer::Book, refusal))
 }
 
 // Plays the records of these bytes on a book, up to the first fault.
-fn play_on(book: &mut Book, src: &[u8]) -> Option<Fault>
+#[tactic(auto, using(crate::proofs::Playing::left_none, crate::proofs::Playing::left_more, crate::proofs::Playing::passes))]
+fn play_on(book: &mut Book, src: &[u8]) -> Result<(), Fault>
     ensures book_is_the_ledger_of_the_records { ledger_of book.new ≡ (played_on (ledger_of book.old) src.now).0 }
-    ensures fault_is_the_first_of_the_records { fault_of result ≡ (played_on (ledger_of book.old) src.now).1 }
+    ensures stopped_by_the_first_of_the_records { stopped_by result ≡ (played_on (ledger_of book.old) src.now).1 }
 {
     let mut reader = Reader::new(src);
     loop {
         let offset = reader.offset();
         let Some(found) = reader.next() else {
-            return None;
+            return Ok(());
         };
-        if let Err(fault) = take_up(book, offset, found) {
-            return Some(fault);
-        }
+        take_up(book, offset, found)?;
     }
 }
 
@@ -91,6 +74,6 @@ pub fn play(src: &[u8]) -> Played
     ensures fault_is_the_first_of_the_records { fault_of result.fault ≡ (played src.now).1 }
 {
     let mut book = Book::new();
-    let fault = play_on(&mut book, src);
+    let fault = play_on(&mut book, src).err();
     Played { book, fault }
 }

@@ -8,8 +8,8 @@ fn stops(rt: &impl Abort, src: &[u8], number: u16, layer: u16, offset: usize) ->
     let Some(fault) = play(src).fault else {
         return Err(Fail::new("no fault"));
     };
-    assert_eq!(rt; fault.refusal.number(), number);
-    assert_eq!(rt; fault.layer.number(), layer);
+    assert_eq!(rt; u16::from(fault.refusal), number);
+    assert_eq!(rt; u16::from(fault.layer), layer);
     assert_eq!(rt; fault.offset, offset);
     Ok(())
 }

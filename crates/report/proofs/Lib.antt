@@ -1,4 +1,2 @@
-mod Digits
 mod Lines
 mod Longest
-mod Writes

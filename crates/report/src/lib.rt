@@ -1,34 +1,52 @@
 // The listing of rows as text, in a lent buffer.
 #![tactic(auto)]
 
-ghost use Rattle.std.specs.Prelude.{◌≡◌, ◌≤◌, ◌++◌, length, drop, IfOk, if◌then◌else◌, Ok, Err, nat_le};
+ghost use Rattle.std.specs.Prelude.{◌≡◌, ◌≤◌, ◌++◌, length, drop, IfOk, IsSome, IsTrue, ◌↔◌, if◌then◌else◌, Ok, Err, nat_le};
 ghost use Rattle.units.specs.declared.refusal.Refusal.TheVariants.{ListingTooLong};
 ghost use Rattle.report.specs.Listing.{listing};
 ghost use Rattle.report.specs.Bounds.{ListingBounded};
 
+use crate::line::line;
 use ledger::row::Row;
 use units::refusal::Refusal;
 
-mod measure;
-mod write;
+mod line;
+
+const HEADER: &[u8] = b"selection,market,unit,up,down,megawatts,cost,state\n";
 
 // Writes the listing of the rows to the front of `out`, and answers its length. A listing that does not fit is refused, and then nothing is written.
+#[tactic(auto, using(crate::proofs::Lines::listing_steps))]
 pub fn list(rows: &[Row], out: &mut [u8]) -> Result<usize, Refusal>
     ensures answers_its_length_or_refuses_what_does_not_fit { result ≡ (if nat_le (length (listing rows.now)) (length out.old) then Ok (length (listing rows.now)) else Err ListingTooLong) }
     ensures writes_the_listing_in_front_or_nothing { out.new ≡ (if nat_le (length (listing rows.now)) (length out.old) then listing rows.now ++ drop (length (listing rows.now)) out.old else out.old) }
     ensures length_is_within_the_buffer { IfOk result (λ n. n ≤ length out.old) }
 {
-    let true = measure::fits(rows, out.len()) else {
-        return Err(Refusal::ListingTooLong);
-    };
-    let mut at = write::put_header(out);
+    room_after(rows, out.len()).ok_or(Refusal::ListingTooLong)?;
+    // the place is counted here alone: what is behind it is written in turn, and read by nobody else
+    let mut at = HEADER.len();
+    out[..at].copy_from_slice(HEADER);
     for row in rows {
-        at = write::put_row(out, at, row);
+        let line = line(row);
+        let end = at + line.len();
+        out[at..end].copy_from_slice(line.as_bytes());
+        at = end;
     }
     Ok(at)
 }
 
-// States how large a buffer always suffices.
+// How many of `room` bytes the listing of the rows leaves.
+#[tactic(auto, using(crate::proofs::Lines::listing_steps))]
+fn room_after(rows: &[Row], room: usize) -> Option<usize>
+    ensures is_some_where_the_listing_fits { IsSome result ↔ (length (listing rows.now) ≤ room) }
+{
+    let mut left = room.checked_sub(HEADER.len())?;
+    for row in rows {
+        left = left.checked_sub(line(row).len())?;
+    }
+    Some(left)
+}
+
+// States how large a buffer always suffices. A function for its contract alone, which the check asks for.
 pub fn listing_length_is_bounded() -> u8
     ensures a_listing_takes_at_most_51_bytes_and_47_for_each_row { ListingBounded }
 {

@@ -1,5 +1,6 @@
 -- What the offer of a unit comes to, moved or closed.
-use Rattle.std.proofs.Common.{◌≡◌, ℕ, ◌-◌, ◌≤◌, ltb, List, [], ◌∷◌, length, ℤ, Some, None, Option, sym, refl, ap, subst, arith}
+use Rattle.std.proofs.Common.{◌≡◌, ℕ, ◌-◌, ◌≤◌, true, ltb, List, [], ◌∷◌, length, ℤ, Some, None, Option, sym, refl, ap, subst, arith}
+use Rattle.std.specs.Option.{is_some}
 use Rattle.std.proofs.lemmas.List.{length-take-le}
 use Rattle.std.proofs.lemmas.Bool.{cond_both}
 use Rattle.units.specs.declared.figures.Figures.{Figures}
@@ -41,8 +42,12 @@ stays f c (p ∷ ps) h = refl
 some_pairs : (o : Offer) → 1 ≤ length (pairs_of o)
 some_pairs o = let e = length-take-le o.count o.pairs (omega arith) in omega arith
 
+some_offer : (o : Option Offer) → is_some o ≡ true → 1 ≤ length (offer_of o)
+some_offer None h = absurd cc
+some_offer (Some o) h = some_pairs o
+
 -- an offer that is there stays as it is at closing
-pub offer_stays : (u : GeneratingUnit) (c : ℤ) (o : Offer) → u.offer ≡ Some o → state_of u ≡ closed_at c (state_of u)
-offer_stays u c o e =
-    let s : offer_of u.offer ≡ closing_offer u.figures c (offer_of u.offer) = rw e (stays u.figures c (pairs_of o) (some_pairs o)) in
+pub offer_stays : (u : GeneratingUnit) (c : ℤ) → is_some u.offer ≡ true → state_of u ≡ closed_at c (state_of u)
+offer_stays u c h =
+    let s = stays u.figures c (offer_of u.offer) (some_offer u.offer h) in
     ap (λ ps. record { figures = u.figures; availability = u.availability; notification = u.notification; offer = ps }) s

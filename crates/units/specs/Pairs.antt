@@ -1,5 +1,6 @@
 -- Pairs of quantity and price, in a list.
 use Rattle.std.specs.Prelude.{ℕ, ◌+◌, Bool, true, ◌&&◌, List, [], ◌∷◌, length, ℤ, pos, negsuc, int_le, int_lt}
+use Rattle.std.specs.List.{list_all}
 use Rattle.units.specs.declared.pair.Pair.{Pair}
 use Rattle.units.specs.Registrations.{within}
 
@@ -25,8 +26,7 @@ abbrev pub pair_in_range : Pair → Bool
 pair_in_range p = within 1 5000 p.quantity && price_in_range p.price
 
 abbrev pub all_in_range : List Pair → Bool
-all_in_range [] = true
-all_in_range (p ∷ ps) = pair_in_range p && all_in_range ps
+all_in_range ps = list_all pair_in_range ps
 
 -- 1 to 5 pairs, each in its range
 abbrev pub offer_in_range : List Pair → Bool

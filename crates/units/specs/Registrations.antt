@@ -1,5 +1,7 @@
 -- What may be registered of a unit, and what is kept of it.
-use Rattle.std.specs.Prelude.{ℕ, ◌/◌, ◌%◌, Bool, cond, ◌&&◌, ◌==◌, nat_le}
+use Rattle.std.specs.Prelude.{◌≡◌, ℕ, ◌/◌, ◌%◌, Bool, cond, ◌&&◌, Ok, Err, Result, ◌==◌, nat_le}
+use Rattle.units.specs.declared.refusal.Refusal.{Refusal}
+use Rattle.units.specs.declared.refusal.Refusal.TheVariants.{OutOfRange}
 use Rattle.units.specs.declared.figures.Registration.{Registration}
 use Rattle.units.specs.declared.figures.Figures.{Figures}
 use Rattle.units.specs.declared.figures.Marks.{Marks}
@@ -51,6 +53,10 @@ agrees r =
 -- 1 is thermal, 2 other
 abbrev pub class_of : ℕ → Class
 class_of c = cond (c == 1) Thermal Other
+
+-- the class with this number, or that the number is out of range
+abbrev pub IsClassNumbered : ℕ → Result Class Refusal → Type 0
+IsClassNumbered n r = r ≡ cond (within 1 2 n) (Ok (class_of n)) (Err OutOfRange)
 
 abbrev pub marks_of : ℕ → Marks
 marks_of m = record { qualified = (m % 2 == 1); priority = (m / 2 % 2 == 1) }

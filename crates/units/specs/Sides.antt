@@ -1,5 +1,7 @@
 -- The markets by number, and their sides.
-use Rattle.std.specs.Prelude.{ℕ, Bool, true, false, cond, Some, None, Option, ◌==◌}
+use Rattle.std.specs.Prelude.{◌≡◌, ℕ, Bool, true, false, cond, Some, None, Option, Result, ok_or, ◌==◌}
+use Rattle.units.specs.declared.refusal.Refusal.{Refusal}
+use Rattle.units.specs.declared.refusal.Refusal.TheVariants.{OutOfRange}
 use Rattle.units.specs.declared.side.Side.{Side}
 use Rattle.units.specs.declared.side.Side.TheVariants.{Up, Down, Band as Both}
 use Rattle.units.specs.declared.side.MarketNumber.{MarketNumber}
@@ -29,6 +31,10 @@ market_numbered n =
     (cond (n == 3) (Some FastDown)
     (cond (n == 4) (Some SlowUp)
     (cond (n == 5) (Some SlowDown) None))))
+
+-- the market with this number, or that the number is out of range
+abbrev pub IsMarketNumbered : ℕ → Result MarketNumber Refusal → Type 0
+IsMarketNumbered n r = r ≡ ok_or (market_numbered n) OutOfRange
 
 abbrev pub same_side : Side → Side → Bool
 same_side Up Up = true

@@ -1,9 +1,13 @@
 // What is registered of a unit, as it arrives and as it is kept.
 ghost use Rattle.std.specs.Prelude.{◌≡◌};
-ghost use Rattle.units.specs.Registrations.{in_range, agrees, class_of, marks_of, figures_of};
+ghost use Rattle.units.specs.Registrations.{in_range, agrees, marks_of, figures_of, IsClassNumbered};
+
+use crate::refusal::Refusal;
 
 // The figures of a unit as they arrive, not yet checked.
-#[derive(Clone, Copy)]
+// Class and marks are numbers here, since a book refuses those out of range itself, and in its turn;
+// so these are not the `Figures` that are kept, with two fields more.
+#[derive(Clone, Copy, Debug, PartialEq, Eq, Hash)]
 pub struct Registration {
     pub number: u16,
     pub class: u8,
@@ -17,21 +21,22 @@ pub struct Registration {
     pub down_rate: u16,
 }
 
-#[derive(Clone, Copy)]
+#[derive(Clone, Copy, Debug, Default, PartialEq, Eq, Hash)]
 pub enum Class {
     Thermal,
+    #[default]
     Other,
 }
 
 // What a unit is marked as: qualified for band, and of priority.
-#[derive(Clone, Copy)]
+#[derive(Clone, Copy, Debug, Default, PartialEq, Eq, Hash)]
 pub struct Marks {
     pub qualified: bool,
     pub priority: bool,
 }
 
 // The registered figures of a unit: megawatts, and megawatts a minute for the rates.
-#[derive(Clone, Copy)]
+#[derive(Clone, Copy, Debug, Default, PartialEq, Eq, Hash)]
 pub struct Figures {
     pub number: u16,
     pub class: Class,
@@ -46,12 +51,12 @@ pub struct Figures {
 }
 
 impl Registration {
-    // Whether every figure lies in its range.
+    // Whether every figure lies in its range. Plain comparisons: by `contains` the proof of all ten did not close.
     pub fn in_range(&self) -> bool
         ensures tells_the_ranges { result ≡ in_range self.now }
     {
         1 <= self.number
-            && (1 <= self.class && self.class <= 2)
+            && Class::try_from(self.class).is_ok()
             && self.marks <= 3
             && (1 <= self.installed && self.installed <= 5000)
             && self.minimum <= 5000
@@ -72,41 +77,51 @@ impl Registration {
             && self.smallest_band % 2 == 0
             && self.largest_band % 2 == 0
     }
+}
 
-    // The figures as the book keeps them.
-    pub fn figures(&self) -> Figures
-        ensures keeps_every_figure { result ≡ figures_of self.now }
-    {
-        Figures {
-            number: self.number,
-            class: class_of(self.class),
-            marks: marks_of(self.marks),
-            installed: self.installed,
-            minimum: self.minimum,
-            band_minimum: self.band_minimum,
-            smallest_band: self.smallest_band,
-            largest_band: self.largest_band,
-            up_rate: self.up_rate,
-            down_rate: self.down_rate,
+// 1 is thermal, 2 any other; no other number is a class.
+impl TryFrom<u8> for Class {
+    type Error = Refusal;
+
+    ghost try_from_gives = { IsClassNumbered };
+
+    fn try_from(number: u8) -> Result<Class, Refusal> {
+        match number {
+            1 => Ok(Class::Thermal),
+            2 => Ok(Class::Other),
+            _ => Err(Refusal::OutOfRange),
         }
     }
 }
 
-fn class_of(class: u8) -> Class
-    ensures is_the_class { result ≡ class_of class }
-{
-    if class == 1 {
-        Class::Thermal
-    } else {
-        Class::Other
+// Bit 0 is qualified, bit 1 priority; other bits are not looked at.
+impl From<u8> for Marks {
+    ghost from_gives = { λ bits marks. marks ≡ marks_of bits };
+
+    fn from(bits: u8) -> Marks {
+        Marks {
+            qualified: bits % 2 == 1,
+            priority: bits / 2 % 2 == 1,
+        }
     }
 }
 
-fn marks_of(marks: u8) -> Marks
-    ensures are_the_marks { result ≡ marks_of marks }
-{
-    Marks {
-        qualified: marks % 2 == 1,
-        priority: marks / 2 % 2 == 1,
+// The figures as the book keeps them. A class out of range, which no book registers, counts as other.
+impl From<Registration> for Figures {
+    ghost from_gives = { λ registration figures. figures ≡ figures_of registration };
+
+    fn from(registration: Registration) -> Figures {
+        Figures {
+            number: registration.number,
+            class: Class::try_from(registration.class).unwrap_or(Class::Other),
+            marks: Marks::from(registration.marks),
+            installed: registration.installed,
+            minimum: registration.minimum,
+            band_minimum: registration.band_minimum,
+            smallest_band: registration.smallest_band,
+            largest_band: registration.largest_band,
+            up_rate: registration.up_rate,
+            down_rate: registration.down_rate,
+        }
     }
 }

@@ -4,7 +4,7 @@ ghost use Rattle.units.specs.Pairs.{price_in_range, pair_in_range};
 
 // So many megawatts at a price, in bani per megawatt.
 // A quantity has 32 bits, since a move adds to a pair before it takes off.
-#[derive(Clone, Copy)]
+#[derive(Clone, Copy, Debug, Default, PartialEq, Eq, Hash)]
 pub struct Pair {
     pub quantity: u32,
     pub price: i32,
@@ -14,7 +14,7 @@ pub struct Pair {
 pub fn is_price(price: i32) -> bool
     ensures tells_the_range { result ≡ price_in_range price }
 {
-    -10000000 <= price && price <= 10000000
+    (-10000000..=10000000).contains(&price)
 }
 
 impl Pair {
@@ -22,6 +22,6 @@ impl Pair {
     pub fn in_range(&self) -> bool
         ensures tells_the_ranges { result ≡ pair_in_range self.now }
     {
-        (1 <= self.quantity && self.quantity <= 5000) && is_price(self.price)
+        (1..=5000).contains(&self.quantity) && is_price(self.price)
     }
 }

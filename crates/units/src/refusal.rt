@@ -2,10 +2,11 @@
 ghost use Rattle.std.specs.Prelude.{◌≡◌};
 ghost use Rattle.units.specs.Refusals.{number_of};
 
+use std::error::Error;
 use std::fmt;
 
 // Why a call, a record or a listing is refused.
-#[derive(Clone, Copy, PartialEq, Eq, Debug)]
+#[derive(Clone, Copy, Debug, PartialEq, Eq, Hash)]
 pub enum Refusal {
     OutOfRange = 1,
     AlreadyClosed = 2,
@@ -29,13 +30,16 @@ pub enum Refusal {
     WrongLength = 20,
 }
 
-impl Refusal {
-    pub fn number(self) -> u16
-        ensures is_the_number_of_the_table { result ≡ number_of self }
-    {
-        self as u16
-    }
+// `as` reads the number of a variant; Rust has no other form for it.
+impl From<Refusal> for u16 {
+    ghost from_gives = { λ refusal n. n ≡ number_of refusal };
 
+    fn from(refusal: Refusal) -> u16 {
+        refusal as u16
+    }
+}
+
+impl Refusal {
     // What the number means, in a few words.
     fn meaning(self) -> &'static str {
         match self {
@@ -63,10 +67,13 @@ impl Refusal {
     }
 }
 
+// By hand: each message of a derive would repeat its number.
 impl fmt::Display for Refusal {
     fn fmt<W: fmt::Write>(&self, f: &mut fmt::Formatter<W>) -> fmt::Result {
-        let number = self.number();
+        let number = u16::from(*self);
         let meaning = self.meaning();
         write!(f, "{number} {meaning}")
     }
 }
+
+impl Error for Refusal {}

@@ -1,9 +1,11 @@
 // Sides of the notification, and the numbers of the markets.
 ghost use Rattle.std.specs.Prelude.{◌≡◌};
-ghost use Rattle.units.specs.Sides.{market_number, side_of, market_numbered, same_side};
+ghost use Rattle.units.specs.Sides.{market_number, side_of, IsMarketNumbered};
+
+use crate::refusal::Refusal;
 
 // Where a lot lies: above the notification, below it, or on both sides at once.
-#[derive(Clone, Copy)]
+#[derive(Clone, Copy, Debug, PartialEq, Eq, Hash)]
 pub enum Side {
     Up,
     Down,
@@ -11,8 +13,9 @@ pub enum Side {
 }
 
 // The number that the rows of a selection carry.
-#[derive(Clone, Copy)]
+#[derive(Clone, Copy, Debug, Default, PartialEq, Eq, Hash)]
 pub enum MarketNumber {
+    #[default]
     Band = 1,
     FastUp = 2,
     FastDown = 3,
@@ -20,38 +23,34 @@ pub enum MarketNumber {
     SlowDown = 5,
 }
 
-impl Side {
-    pub fn is(self, other: Side) -> bool
-        ensures tells_whether_the_sides_are_one { result ≡ same_side self other }
-    {
-        match (self, other) {
-            (Side::Up, Side::Up) | (Side::Down, Side::Down) | (Side::Band, Side::Band) => true,
-            _ => false,
+// The market with a number; any other number is out of range.
+impl TryFrom<u8> for MarketNumber {
+    type Error = Refusal;
+
+    ghost try_from_gives = { IsMarketNumbered };
+
+    fn try_from(number: u8) -> Result<MarketNumber, Refusal> {
+        match number {
+            1 => Ok(MarketNumber::Band),
+            2 => Ok(MarketNumber::FastUp),
+            3 => Ok(MarketNumber::FastDown),
+            4 => Ok(MarketNumber::SlowUp),
+            5 => Ok(MarketNumber::SlowDown),
+            _ => Err(Refusal::OutOfRange),
         }
     }
 }
 
+// `as` reads the number of a variant; Rust has no other form for it.
+impl From<MarketNumber> for u16 {
+    ghost from_gives = { λ market n. n ≡ market_number market };
+
+    fn from(market: MarketNumber) -> u16 {
+        market as u16
+    }
+}
+
 impl MarketNumber {
-    // The market with this number.
-    pub fn of(number: u8) -> Option<MarketNumber>
-        ensures is_the_market_of_the_number { result ≡ market_numbered number }
-    {
-        match number {
-            1 => Some(MarketNumber::Band),
-            2 => Some(MarketNumber::FastUp),
-            3 => Some(MarketNumber::FastDown),
-            4 => Some(MarketNumber::SlowUp),
-            5 => Some(MarketNumber::SlowDown),
-            _ => None,
-        }
-    }
-
-    pub fn number(self) -> u16
-        ensures is_the_number_of_the_market { result ≡ market_number self }
-    {
-        self as u16
-    }
-
     pub fn side(self) -> Side
         ensures is_the_side_of_the_market { result ≡ side_of self }
     {

@@ -20,7 +20,7 @@ fn unit(first: u16, second: u16, notified: u16) -> GeneratingUnit {
         up_rate: 1,
         down_rate: 1,
     }
-    .figures());
+    .into());
     let pairs = [
         Pair {
             quantity: first as u32,
@@ -77,6 +77,6 @@ fn refusals_have_their_numbers(rt: HostRuntime) {
     assert_eq!(rt; u.declare(79), Err(Refusal::BoundBroken));
     assert_eq!(rt; u.notify(true, 121), Err(Refusal::BoundBroken));
     assert_eq!(rt; u.declare(80), Ok(()));
-    assert_eq!(rt; Refusal::BoundBroken.number(), 8);
+    assert_eq!(rt; u16::from(Refusal::BoundBroken), 8);
     assert!(rt; u.figures.marks.priority && !u.figures.marks.qualified);
 }

@@ -2,7 +2,7 @@
 use book::Book;
 use lots::lot::{BandLot, EnergyLot, Lot};
 use markets::choice::Choice;
-use markets::market::{Band, FastDown, FastUp};
+use markets::market::{Band, FAST_DOWN, FAST_UP};
 use markets::rule::{ByNumber, Faster};
 use markets::stack::stack_of;
 use units::side::{MarketNumber, Side};
@@ -25,15 +25,15 @@ fn show_choice<L: Lot>(rt: &impl Print, what: &str, choice: &Choice<L>) -> anyho
 // Prints the choices of some demands, through a stack of each depth.
 pub fn show_choices(rt: &impl Print, book: &Book) -> anyhow::Result<()> {
     println!(rt; "  unit         up  down  megawatts      cost")?;
-    let by_number: Choice<EnergyLot> = book.choose(&FastUp, &ByNumber, 50);
+    let by_number: Choice<EnergyLot> = book.choose(&FAST_UP, &ByNumber, 50);
     show_choice(rt, "fast up 50, by number", &by_number)?;
     let faster = Faster {
         side: Side::Up,
         below: ByNumber,
     };
-    let all: Choice<EnergyLot> = book.choose(&FastUp, &faster, 71);
+    let all: Choice<EnergyLot> = book.choose(&FAST_UP, &faster, 71);
     show_choice(rt, "fast up 71, faster over number", &all)?;
-    let down: Choice<EnergyLot> = book.choose(&FastDown, &stack_of(MarketNumber::FastDown), 60);
+    let down: Choice<EnergyLot> = book.choose(&FAST_DOWN, &stack_of(MarketNumber::FastDown), 60);
     show_choice(rt, "fast down 60, priority over that", &down)?;
     let both: Choice<BandLot> = book.choose(&Band, &stack_of(MarketNumber::Band), 25);
     show_choice(rt, "band 25, faster over number", &both)?;

@@ -2,7 +2,7 @@
 use book::Book;
 use lots::lot::{BandLot, EnergyLot, Lot};
 use lots::standing::Standing;
-use markets::market::{Band, FastDown, FastUp, Market, SlowDown, SlowUp};
+use markets::market::{Band, FAST_DOWN, FAST_UP, Market, SLOW_DOWN, SLOW_UP};
 use units::side::Side;
 
 // Prints lots of one kind and side of the unit with this number.
@@ -37,19 +37,15 @@ pub fn show_lots(rt: &impl Print, book: &Book) -> anyhow::Result<()> {
 // Prints the eligible energy of the units in each market, with nothing standing.
 pub fn show_eligible(rt: &impl Print, book: &Book) -> anyhow::Result<()> {
     println!(rt; "  unit  band  fast up  fast down  slow up  slow down")?;
-    let nothing = Standing {
-        up: 0,
-        down: 0,
-        band: 0,
-    };
+    let nothing = Standing::default();
     for entry in book.units() {
         let unit = &entry.unit;
         let number = unit.figures.number;
         let band = Band.eligible(unit, &nothing);
-        let fast_up = FastUp.eligible(unit, &nothing);
-        let fast_down = FastDown.eligible(unit, &nothing);
-        let slow_up = SlowUp.eligible(unit, &nothing);
-        let slow_down = SlowDown.eligible(unit, &nothing);
+        let fast_up = FAST_UP.eligible(unit, &nothing);
+        let fast_down = FAST_DOWN.eligible(unit, &nothing);
+        let slow_up = SLOW_UP.eligible(unit, &nothing);
+        let slow_down = SLOW_DOWN.eligible(unit, &nothing);
         println!(rt; "{number:>6}{band:>6}{fast_up:>9}{fast_down:>11}{slow_up:>9}{slow_down:>11}")?;
     }
     println!(rt; "")?;

@@ -1,18 +1,27 @@
-// Adding, confirming and removing the rows of selections.
-ghost use Rattle.std.specs.Prelude.{◌≡◌, ◌+◌, ◌<◌, ◌≤◌, not, [], ◌∷◌, ◌++◌, map, length, drop, if◌then◌else◌, nat_le};
+// The rows of a book: adding, confirming and removing those of selections.
+ghost use Rattle.std.specs.Prelude.{◌≡◌, ◌+◌, ◌≤◌, not, [], ◌++◌, map, length, drop, is_ok, if◌then◌else◌, Some, None, nat_le};
 ghost use Rattle.units.specs.declared.side.Side.TheVariants.{Band};
+ghost use Rattle.units.specs.Refusals.{refused_by};
 ghost use Rattle.markets.specs.Candidates.{commitment_in};
+ghost use Rattle.ledger.specs.Ledger.{has_rows};
 ghost use Rattle.ledger.specs.Selections.{of_side};
 ghost use Rattle.ledger.specs.Selecting.{energy_stands};
-ghost use Rattle.ledger.specs.Settling.{confirmed_if, with_confirmed, without};
-ghost use Rattle.book.specs.Tables.{rows_of};
+ghost use Rattle.ledger.specs.Settling.{with_confirmed, without};
 ghost use Rattle.book.specs.Adding.{row_by};
 
-use super::RowTable;
+use arrayvec::ArrayVec;
 use ledger::row::{Row, State};
 use lots::lot::Lot;
 use markets::choice::Chosen;
+use units::refusal::Refusal;
 use units::side::MarketNumber;
+
+// Up to 512 rows, in the order in which they were selected.
+#[derive(Drop)]
+pub struct RowTable {
+    rows: ArrayVec<Row, 512>,
+    ghost within: { length rows.items ≤ 512 },
+}
 
 // The row of a chosen lot: open, with the numbers of the selection and of its market.
 fn row_of<L: Lot>(selection: u16, market: MarketNumber, chosen: &Chosen<L>) -> Row
@@ -37,52 +46,36 @@ fn is_energy(row: &Row) -> bool
     row.up == 0 || row.down == 0
 }
 
-// A row once the selection with this number is confirmed.
-fn confirmed(row: Row, selection: u16) -> Row
-    ensures confirms_a_row_of_the_selection { result ≡ confirmed_if selection row }
-{
-    let mut row = row;
-    if row.selection == selection {
-        row.state = State::Confirmed;
-    }
-    row
-}
-
 impl RowTable {
-    pub(crate) fn len(&self) -> usize
-        ensures counts_the_rows { result ≡ length (rows_of self.now) }
-        ensures are_few { result ≤ 512 }
+    ghost use Rattle.book.specs.Tables.{rows_of};
+
+    pub(crate) fn new() -> RowTable
+        ensures has_no_rows { rows_of result ≡ [] }
     {
-        self.count
+        RowTable {
+            rows: ArrayVec::new(),
+        }
     }
 
-    // The rows from a place on.
-    pub(crate) fn from(&self, place: usize) -> &[Row]
-        requires { place ≤ length (rows_of self.now) }
-        ensures lends_the_rows_from_there { result.now ≡ drop place (rows_of self.now) }
+    pub(crate) fn as_slice(&self) -> &[Row]
+        ensures lends_the_rows { result.now ≡ rows_of self.now }
+        ensures are_few { length result.now ≤ 512 }
     {
-        &self.rows[place..self.count]
+        self.rows.as_slice()
+    }
+
+    // Whether some row is of this unit.
+    pub(crate) fn has_unit(&self, number: u16) -> bool
+        ensures tells_whether_rows_stand { result ≡ has_rows number (rows_of self.now) }
+    {
+        self.rows.iter().any(|row| row.unit == number)
     }
 
     // Whether some row is of an up or a down lot.
     pub(crate) fn has_energy(&self) -> bool
         ensures tells_whether_energy_stands { result ≡ energy_stands (rows_of self.now) }
     {
-        for row in self.as_slice() {
-            if is_energy(row) {
-                return true;
-            }
-        }
-        false
-    }
-
-    // Adds a row at the end.
-    fn push(&mut self, row: Row)
-        requires { length (rows_of self.old) < 512 }
-        ensures adds_at_the_end { rows_of self.new ≡ rows_of self.old ++ row ∷ [] }
-    {
-        self.rows[self.count] = row;
-        self.count += 1;
+        self.rows.iter().any(is_energy)
     }
 
     // Adds a row for each chosen lot, if there is room for all of them.
@@ -91,26 +84,27 @@ impl RowTable {
         chosen: &[Chosen<L>],
         selection: u16,
         market: MarketNumber,
-    ) -> bool
-        ensures tells_whether_there_is_room { result ≡ nat_le (length (rows_of self.old) + length chosen.now) 512 }
-        ensures adds_a_row_for_each_or_changes_nothing { rows_of self.new ≡ (if result then rows_of self.old ++ map (row_by selection market) (map (commitment_in L.Lot.figures) chosen.now) else rows_of self.old) }
+    ) -> Result<(), Refusal>
+        ensures tells_whether_there_is_room { refused_by result ≡ (if nat_le (length (rows_of self.old) + length chosen.now) 512 then None else Some 15) }
+        ensures adds_a_row_for_each_or_changes_nothing { rows_of self.new ≡ (if is_ok result then rows_of self.old ++ map (row_by selection market) (map (commitment_in L.Lot.figures) chosen.now) else rows_of self.old) }
     {
-        let true = chosen.len() <= 512 - self.count else {
-            return false;
-        };
-        for lot in chosen {
-            self.push(row_of(selection, market, lot));
+        if self.rows.remaining_capacity() < chosen.len() {
+            return Err(Refusal::RowsFull);
         }
-        true
+        for lot in chosen {
+            self.rows.push(row_of(selection, market, lot));
+        }
+        Ok(())
     }
 
     // Confirms the rows of the selection with this number.
     pub(crate) fn confirm(&mut self, selection: u16)
         ensures confirms_the_rows_of_the_selection { rows_of self.new ≡ with_confirmed selection (rows_of self.old) }
     {
-        for i in 0..self.count {
-            let row = confirmed(self.rows[i], selection);
-            self.rows[i] = row;
+        for row in self.rows.iter_mut() {
+            if row.selection == selection {
+                row.state = State::Confirmed;
+            }
         }
     }
 
@@ -118,14 +112,6 @@ impl RowTable {
     pub(crate) fn remove(&mut self, selection: u16)
         ensures removes_the_rows_of_the_selection { rows_of self.new ≡ without selection (rows_of self.old) }
     {
-        let mut place = 0;
-        for i in 0..self.count {
-            let row = self.rows[i];
-            if row.selection != selection {
-                self.rows[place] = row;
-                place += 1;
-            }
-        }
-        self.count = place;
+        self.rows.retain(|row| row.selection != selection);
     }
 }

@@ -1,10 +1,9 @@
 // The band lots of a unit.
-ghost use Rattle.std.specs.Prelude.{◌≡◌, ◌+◌, ◌≤◌, true, [], ◌++◌, map, reverse, length, filter};
-ghost use Rattle.std.specs.List.{AllByRecursion};
+ghost use Rattle.std.specs.Prelude.{◌≡◌, true, map, filter};
 ghost use Rattle.units.specs.declared.side.Side.TheVariants.{Band};
 ghost use Rattle.units.specs.Pairs.{price_in_range};
 ghost use Rattle.lots.specs.Lots.{band_lot, parts, some};
-ghost use Rattle.lots.specs.Values.{listed, band_figures, band_serves};
+ghost use Rattle.lots.specs.Values.{spans_of, listed, band_figures, band_serves};
 ghost use Rattle.std.proofs.Common.{rules};
 
 use super::{BandLot, Filler, Lot};
@@ -40,28 +39,16 @@ impl Lot for BandLot {
 
     fn lots_of(side: Side, unit: &GeneratingUnit) -> LotList<BandLot> {
         match side {
-            Side::Up | Side::Down => no_lots(),
-            Side::Band => band_lots(unit.notification as u32, Stack::of(unit).spans()),
+            Side::Up | Side::Down => LotList::new(),
+            Side::Band => Stack::of(unit).band_lots(),
         }
     }
 }
 
 impl Filler for BandLot {
     fn none() -> BandLot {
-        BandLot {
-            upper: 0,
-            lower: 0,
-            size: 0,
-            cost: 0,
-        }
+        Self::default()
     }
-}
-
-fn no_lots() -> LotList<BandLot>
-    ensures has_no_lots { listed result ≡ [] }
-    ensures counts_none { result.count ≡ 0 }
-{
-    LotList::new(BandLot::none())
 }
 
 fn band_lot(n: u32, s: &Span, t: &Span) -> BandLot
@@ -79,32 +66,22 @@ fn band_lot(n: u32, s: &Span, t: &Span) -> BandLot
     }
 }
 
-// Adds the lots of one upper pair, lower pairs downward.
-fn add_row(n: u32, s: &Span, spans: &[Span], list: &mut LotList<BandLot>)
-    requires upper_priced { price_in_range s.now.price ≡ true }
-    requires lower_priced { AllByRecursion (λ t. price_in_range t.price ≡ true) spans.now }
-    requires room { list.old.count + length spans.now ≤ 25 }
-    ensures adds_the_lots_of_an_upper_pair { map band_figures (listed list.new) ≡ map band_figures (listed list.old) ++ filter some (map (band_lot n s.now) (reverse spans.now)) }
-    ensures counts_one_more_a_pair_at_most { list.new.count ≤ list.old.count + length spans.now }
-{
-    if s.top <= n {
-        return;
+impl Stack {
+    // The lots on both sides of the notification, upper pairs upward, lower pairs downward.
+    fn band_lots(&self) -> LotList<BandLot>
+        ensures lists_the_band_lots { map band_figures (listed result) ≡ filter some (parts Band self.now.notification (spans_of self.now)) }
+    {
+        let spans = self.spans.as_slice();
+        let mut list = LotList::new();
+        for s in spans {
+            // No megawatt of a pair at or below the notification lies above it.
+            if s.top > self.notification {
+                for t in spans.iter().rev() {
+                    let lot = band_lot(self.notification, s, t);
+                    list.add(lot, lot.size);
+                }
+            }
+        }
+        list
     }
-    for i in (0..spans.len()).rev() {
-        let lot = band_lot(n, s, &spans[i]);
-        list.add(lot, lot.size);
-    }
-}
-
-// The lots on both sides of the notification n, upper pairs upward.
-fn band_lots(n: u32, spans: &[Span]) -> LotList<BandLot>
-    requires few { length spans.now ≤ 5 }
-    requires priced { AllByRecursion (λ s. price_in_range s.price ≡ true) spans.now }
-    ensures lists_the_band_lots { map band_figures (listed result) ≡ filter some (parts Band n spans.now) }
-{
-    let mut list = no_lots();
-    for i in 0..spans.len() {
-        add_row(n, &spans[i], spans, &mut list);
-    }
-    list
 }

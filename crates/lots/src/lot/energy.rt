@@ -1,10 +1,9 @@
 // The energy lots of a unit.
-ghost use Rattle.std.specs.Prelude.{◌≡◌, ◌≤◌, true, [], map, length, filter};
-ghost use Rattle.std.specs.List.{AllByRecursion};
+ghost use Rattle.std.specs.Prelude.{◌≡◌, true, map, filter};
 ghost use Rattle.units.specs.declared.side.Side.TheVariants.{Up, Down};
 ghost use Rattle.units.specs.Pairs.{price_in_range};
 ghost use Rattle.lots.specs.Lots.{up_lot, down_lot, parts, some};
-ghost use Rattle.lots.specs.Values.{listed, energy_figures, energy_serves};
+ghost use Rattle.lots.specs.Values.{spans_of, listed, energy_figures, energy_serves};
 ghost use Rattle.std.proofs.Common.{rules};
 
 use super::{EnergyLot, Filler, Lot, Way};
@@ -46,31 +45,18 @@ impl Lot for EnergyLot {
 
     fn lots_of(side: Side, unit: &GeneratingUnit) -> LotList<EnergyLot> {
         let stack = Stack::of(unit);
-        let n = unit.notification as u32;
         match side {
-            Side::Up => up_lots(n, stack.spans()),
-            Side::Down => down_lots(n, stack.spans()),
-            Side::Band => no_lots(),
+            Side::Up => stack.up_lots(),
+            Side::Down => stack.down_lots(),
+            Side::Band => LotList::new(),
         }
     }
 }
 
 impl Filler for EnergyLot {
     fn none() -> EnergyLot {
-        EnergyLot {
-            way: Way::Up,
-            pair: 0,
-            size: 0,
-            cost: 0,
-        }
+        Self::default()
     }
-}
-
-fn no_lots() -> LotList<EnergyLot>
-    ensures has_no_lots { listed result ≡ [] }
-    ensures counts_none { result.count ≡ 0 }
-{
-    LotList::new(EnergyLot::none())
 }
 
 fn up_lot(n: u32, s: &Span) -> EnergyLot
@@ -96,29 +82,29 @@ fn down_lot(n: u32, s: &Span) -> EnergyLot
     }
 }
 
-// The lots above the notification n, upward.
-fn up_lots(n: u32, spans: &[Span]) -> LotList<EnergyLot>
-    requires { length spans.now ≤ 5 }
-    ensures lists_the_up_lots { map energy_figures (listed result) ≡ filter some (parts Up n spans.now) }
-{
-    let mut list = no_lots();
-    for i in 0..spans.len() {
-        let lot = up_lot(n, &spans[i]);
-        list.add(lot, lot.size);
+// Two loops: one function for both would take an order and a way to make a lot, and its contract would be longer than a loop.
+impl Stack {
+    // The lots above the notification, upward.
+    fn up_lots(&self) -> LotList<EnergyLot>
+        ensures lists_the_up_lots { map energy_figures (listed result) ≡ filter some (parts Up self.now.notification (spans_of self.now)) }
+    {
+        let mut list = LotList::new();
+        for s in self.spans.iter() {
+            let lot = up_lot(self.notification, s);
+            list.add(lot, lot.size);
+        }
+        list
     }
-    list
-}
 
-// The lots below the notification n, downward.
-fn down_lots(n: u32, spans: &[Span]) -> LotList<EnergyLot>
-    requires few { length spans.now ≤ 5 }
-    requires priced { AllByRecursion (λ s. price_in_range s.price ≡ true) spans.now }
-    ensures lists_the_down_lots { map energy_figures (listed result) ≡ filter some (parts Down n spans.now) }
-{
-    let mut list = no_lots();
-    for i in (0..spans.len()).rev() {
-        let lot = down_lot(n, &spans[i]);
-        list.add(lot, lot.size);
+    // The lots below the notification, downward.
+    fn down_lots(&self) -> LotList<EnergyLot>
+        ensures lists_the_down_lots { map energy_figures (listed result) ≡ filter some (parts Down self.now.notification (spans_of self.now)) }
+    {
+        let mut list = LotList::new();
+        for s in self.spans.iter().rev() {
+            let lot = down_lot(self.notification, s);
+            list.add(lot, lot.size);
+        }
+        list
     }
-    list
 }

@@ -5,7 +5,7 @@ use Rattle.markets.proofs.choose.choose.Goals as goal
 pub loop-unfilled-init : goal.loop-unfilled-init
 loop-unfilled-init g c =
     let new = c.new-choice.ensures in
-    so_far_none (g.R.TieRule.model c.args.rule.now) g.L.Lot.figures c.args.candidates c.args.demand c.new-choice.result new.has_no_lots new.counts_none.0 new.counts_none.1
+    so_far_none (g.R.TieRule.model c.args.rule.now) g.L.Lot.figures c.args.candidates c.args.demand c.new-choice.result new.has_no_lots new.counts_none
 
 pub returns-in_default : goal.returns-in_default
 returns-in_default g c =

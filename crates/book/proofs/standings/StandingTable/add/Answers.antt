@@ -15,8 +15,8 @@ returns-then-place-lt32 c =
     record {
       takes_the_row_in = λ rs st.
           row_added us rs r t _ q _ c.in-Some.ensures.finds_the_first c.if-place-lt32.true refl
-          (c.sides_with.ensures.adds_to_its_sides ∙ ap (λ (s : Standing). sides_with s r) (field_read (λ u. u.sides) no_sides t q old c.if-place-lt32.true))
-          (subst (λ square. LotsWith square r c.lots_with.result) (field_read (λ u. u.lots) [] t q old c.if-place-lt32.true) c.lots_with.ensures.adds_to_its_lot) st;
+          (c.with.ensures.adds_to_its_sides ∙ ap (λ (s : Standing). sides_with s r) (field_read (λ u. u.sides) no_sides t q old c.if-place-lt32.true))
+          (subst (λ square. LotsWith square r c.with.result.lots) (field_read (λ u. u.lots) [] t q old c.if-place-lt32.true) c.with.ensures.adds_to_its_lot) st;
     }
 
 pub returns-else-place-lt32 : goal.returns-else-place-lt32

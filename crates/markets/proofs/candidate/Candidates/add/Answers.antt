@@ -1,32 +1,37 @@
-use Rattle.std.proofs.Common.{◌≤◌, map, length, take, ◌∙◌, ap₂, arith, length-set, rules}
-use mathlib.Core.Logic.{∥∥₁_map}
-use Rattle.std.proofs.ByRecursion.{All-set}
+use Rattle.std.proofs.Common.{◌+◌, ◌∙◌, ◌≤◌, map, length, ap, ap₂, arith}
+use Rattle.std.proofs.lemmas.Bool.Decides.{nat_tests}
 use Rattle.markets.specs.declared.candidate.Candidate.{Candidate}
-use Rattle.markets.specs.Candidates.{remaining, entered, own_lots, queue, each_from}
-use Rattle.markets.proofs.Entering.{room, units_added, each_added}
+use Rattle.markets.specs.Places.{furthest, most_lots}
+use Rattle.markets.specs.Candidates.{remaining, own_lots, queue}
+use Rattle.markets.proofs.Tables.{each_added, furthest_more, most_more}
 use Rattle.markets.proofs.candidate.Candidates.add.Goals as goal
 
-pub invariant_of-self : goal.invariant_of-self
-invariant_of-self g c =
+pub invariant_of-self-2 : goal.invariant_of-self-2
+invariant_of-self-2 g c =
     let s = c.args.self.now in
-    let new = entered c.args.figures c.args.eligible (length c.args.lots.now) in
-    let fits = room s.count (length c.args.lots.now) c.if-not-has_room.ensures.tells_whether_there_is_room in
-    record { within = omega arith; all_units = length-set s.units s.count new ∙ s.all_units; all_lots = s.all_lots; few = ∥∥₁_map s.few (All-set (λ (w : Candidate). w.count ≤ 25) s.units s.count new fits.1) }
+    let us = s.units.items in
+    let new : Candidate = record { figures = c.args.figures; eligible = c.args.eligible; places = record { start = c.len-start.result; end = c.len.result } } in
+    let free : length us + 1 ≤ 32 = grind (arith, nat_tests, c.if-is_full.false, c.is_full.ensures.value, c.is_full.ensures.fits) in
+    let long = c.in_ok-try_extend_from_slice.ensures.len in
+    let more = c.push.ensures.len in
+    record {
+      within = omega (arith, free, more);
+      room = omega (arith, s.room, long, more, c.if-lots-gt25.false);
+      inside = omega (arith, s.inside, long, ap furthest c.push.ensures.items, furthest_more us new, c.len.ensures.value);
+      few = omega (arith, s.few, long, ap most_lots c.push.ensures.items, most_more us new, c.if-lots-gt25.false, c.len.ensures.value, c.len-start.ensures.value);
+    }
 
-pub returns : goal.returns
-returns g c =
+pub returns-clause-adds_its_lots : goal.returns-clause-adds_its_lots
+returns-clause-adds_its_lots g c =
     let s = c.args.self.now in
     let lots = c.args.lots.now in
-    let new = entered c.args.figures c.args.eligible (length lots) in
-    let fits = room s.count (length lots) c.if-not-has_room.ensures.tells_whether_there_is_room in
+    ap₂ (λ T us. map (own_lots T) us) c.in_ok-try_extend_from_slice.ensures.ok c.push.ensures.items
+    ∙ each_added (λ c xs. xs) s.lots.items lots s.units.items _ s.inside c.len-start.ensures.value (c.len.ensures.value ∙ c.in_ok-try_extend_from_slice.ensures.len)
+
+pub returns-clause-adds_its_queue : goal.returns-clause-adds_its_queue
+returns-clause-adds_its_queue g c =
+    let s = c.args.self.now in
+    let lots = c.args.lots.now in
     let meant = g.L.Lot.figures in
-    let put = c.put.ensures in
-    let units = ap₂ take put.keeps_the_units.1 put.keeps_the_units.0 ∙ units_added s new fits.0 in
-    record {
-      tells_whether_there_is_room = search rules;
-      refused_unit_changes_nothing = λ z. search rules;
-      adds_the_unit = units;
-      adds_its_lots = ap₂ (λ table us. each_from (own_lots table) 0 us) put.writes_the_lots units ∙ each_added (λ c xs. xs) s c.args.figures c.args.eligible lots fits.0;
-      adds_its_queue = ap₂ (λ table us. each_from (queue meant table) 0 us) put.writes_the_lots units
-          ∙ each_added (λ c xs. map (remaining meant c.figures) xs) s c.args.figures c.args.eligible lots fits.0;
-    }
+    ap₂ (λ T us. map (queue meant T) us) c.in_ok-try_extend_from_slice.ensures.ok c.push.ensures.items
+    ∙ each_added (λ c xs. map (remaining meant c.figures) xs) s.lots.items lots s.units.items _ s.inside c.len-start.ensures.value (c.len.ensures.value ∙ c.in_ok-try_extend_from_slice.ensures.len)
