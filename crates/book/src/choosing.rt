@@ -114,7 +114,7 @@ impl Book {
     }
 
     // The lots that a selection of this demand takes, in merit order, with lots of a kind that serves the market's side.
-    // Nothing is changed, and no refusal of a selection is asked.
+    // Nothing is changed, and no refusal of a selection is asked. Market, rule and demand are parameters as in `select`.
     pub fn choose<L: Filler, M: Market, R: TieRule>(
         &self,
         market: &M,

@@ -1,4 +1,4 @@
-// Selecting, and settling what was selected, each by the ledger's step.
+// Selecting, and settling what was selected, each by the ledger's step: the same two clauses stand on each, about another call.
 ghost use Rattle.std.specs.Prelude.{◌≡◌, true, IfErr};
 ghost use Rattle.ledger.specs.declared.slip.SlipFigures.{SlipFigures};
 ghost use Rattle.ledger.specs.Laws.{Laws};

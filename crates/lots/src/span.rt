@@ -45,6 +45,7 @@ impl Stack {
     }
 }
 
+// The premises are no facts of a type: an offer of one pair may have any quantity.
 fn stacked(pairs: &[Pair]) -> ArrayVec<Span, 5>
     requires few { length pairs.now ≤ 5 }
     requires small { summed pairs.now ≤ 65535 }

@@ -1,4 +1,4 @@
-// Playing records on a new book.
+// Playing records on a new book. A record's call has the two clauses that the book's calls have.
 ghost use Rattle.std.specs.Prelude.{◌≡◌};
 ghost use Rattle.ledger.specs.Calls.{step};
 ghost use Rattle.book.specs.Books.{ledger_of, answer_of};

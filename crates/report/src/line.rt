@@ -38,6 +38,7 @@ fn put_field<N: Integer>(line: &mut ArrayString<ROOM>, number: N)
     line.push_str(",");
 }
 
+// No `Display`, as with the line.
 fn letter(state: State) -> &'static str
     ensures is_the_letter_of_the_state { result.now ≡ state_letter state ∷ [] }
 {

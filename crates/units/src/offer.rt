@@ -138,7 +138,8 @@ impl Offer {
         total(self.pairs()) == u64::from(installed)
     }
 
-    // Moves the offer as its unit's notification goes from one figure to another.
+    // Moves the offer as its unit's notification goes from one figure to another. That it sums to so much is asked,
+    // as above.
     pub(crate) fn shift(&mut self, from: u16, to: u16)
         requires { summed (pairs_of self.old) ≤ 65535 }
         ensures moves_the_offer { pairs_of self.new ≡ moved from to (pairs_of self.old) }

@@ -25,6 +25,7 @@ pub struct GeneratingUnit {
 }
 
 // The offer after the notification went from one figure to another: moved, if the book is closed.
+// What it sums to is asked: only an offer of a unit is known to sum to installed power.
 fn after_notice(closed: bool, offer: Option<Offer>, from: u16, to: u16) -> Option<Offer>
     requires { summed (offer_of offer) ≤ 65535 }
     ensures moves_only_after_closing { offer_of result ≡ (if closed then moved from to (offer_of offer) else offer_of offer) }
