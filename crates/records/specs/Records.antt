@@ -4,7 +4,7 @@ use Rattle.units.specs.declared.pair.Pair.{Pair}
 use Rattle.units.specs.declared.refusal.Refusal.{Refusal}
 use Rattle.units.specs.Refusals.{number_of}
 use Rattle.ledger.specs.Calls.{Call, registering, declaring, notifying, making_offer, closing}
-use Rattle.records.specs.declared.«record».PairList.{PairList}
+use Rattle.records.specs.declared.«record».pairs.PairList.{PairList}
 use Rattle.records.specs.declared.«record».Record.{Record}
 use Rattle.records.specs.declared.«record».Record.TheVariants.{Register, Declare, Notify, MakeOffer, Close}
 

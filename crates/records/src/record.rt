@@ -1,16 +1,18 @@
 // What records ask, and reading it out of a record's body.
-ghost use Rattle.std.specs.Prelude.{◌≡◌, ◌/◌, ◌≤◌, length, slice_index, Err, IfOk, IfErr, OnOk, ok_or};
+ghost use Rattle.std.specs.Prelude.{◌≡◌, ◌≤◌, length, slice_index, Err, IfOk, IfErr, OnOk, ok_or};
 ghost use Rattle.units.specs.declared.refusal.Refusal.TheVariants.{UnknownKind};
 ghost use Rattle.units.specs.Refusals.{number_of};
 ghost use Rattle.records.specs.Kinds.{kind_of, length_of};
-ghost use Rattle.records.specs.Decoding.{registration_of, pair_at, pairs_from, decode_kind, decode_of};
-ghost use Rattle.records.specs.Records.{listed, decoded};
+ghost use Rattle.records.specs.Decoding.{registration_of, decode_kind, decode_of};
+ghost use Rattle.records.specs.Records.{decoded};
 
 use crate::bytes::{figure_at, price_at};
-use arrayvec::ArrayVec;
 use units::figures::Registration;
-use units::pair::Pair;
 use units::refusal::Refusal;
+
+mod pairs;
+
+pub use pairs::PairList;
 
 // The kinds of records, by number.
 #[derive(Clone, Copy, Debug, PartialEq, Eq, Hash)]
@@ -52,21 +54,6 @@ impl Kind {
     }
 }
 
-// Up to 5 pairs, as a record lists them: not yet checked.
-#[derive(Debug, PartialEq, Eq, Hash, Drop)]
-pub struct PairList {
-    pairs: ArrayVec<Pair, 5>,
-}
-
-impl PairList {
-    pub fn as_slice(&self) -> &[Pair]
-        ensures lends_the_pairs { result.now ≡ listed self.now }
-        ensures lends_at_most_five { length result.now ≤ 5 }
-    {
-        self.pairs.as_slice()
-    }
-}
-
 // The call that a record asks for, with its figures as they come.
 #[derive(Debug, PartialEq, Eq, Hash, Drop)]
 pub enum Record {
@@ -101,7 +88,7 @@ pub fn decode(kind: u16, body: &[u8]) -> Result<Record, Refusal>
         }),
         Kind::Offer => Ok(Record::MakeOffer {
             number: figure_at(body, 0),
-            pairs: pair_list(&body[3..]),
+            pairs: PairList::of(&body[3..]),
         }),
         Kind::Closing => Ok(Record::Close {
             price: price_at(body, 0),
@@ -139,29 +126,5 @@ fn pair_count(body: &[u8]) -> Result<u8, Refusal>
         [_, _, count @ 1..=5, ..] => Ok(*count),
         [_, _, _, ..] => Err(Refusal::OutOfRange),
         _ => Err(Refusal::WrongLength),
-    }
-}
-
-// The pairs of these bytes, each of six.
-#[tactic(auto, using(std::proofs::lemmas::List::take_all, crate::proofs::Listing::pairs_in_parts))]
-fn pair_list(bytes: &[u8]) -> PairList
-    requires { length bytes.now ≤ 30 }
-    ensures lists_every_pair { listed result ≡ pairs_from (length bytes.now / 6) bytes.now }
-{
-    let (parts, _) = bytes.as_chunks::<6>();
-    let mut pairs = ArrayVec::new();
-    for part in parts {
-        pairs.push(pair_of(part));
-    }
-    PairList { pairs }
-}
-
-// A pair: two bytes of quantity, and four of price.
-fn pair_of(bytes: &[u8; 6]) -> Pair
-    ensures is_the_pair_there { result ≡ pair_at bytes.now 0 }
-{
-    Pair {
-        quantity: u32::from(figure_at(bytes, 0)),
-        price: price_at(bytes, 2),
     }
 }

@@ -1,6 +1,6 @@
 use Rattle.std.proofs.Common.{◌≡◌, length, map, take}
 use Rattle.records.specs.Decoding.{pair_at}
-use Rattle.records.proofs.record.pair_list.Given as goal
+use Rattle.records.proofs.record.pairs.PairList.of.Given as goal
 
 abbrev pub invariant-loop-part : goal.invariant-loop-part
 invariant-loop-part l = record {
