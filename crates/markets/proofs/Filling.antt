@@ -23,7 +23,7 @@ use Rattle.markets.proofs.Queues.{flat}
 few_of : {L : Type 0} (meant : L → LotFigures) (T : List (Left L)) (us : List Candidate) → most_lots us ≤ 25 → length (flat (map (queue meant T) us)) ≤ 25 * length us
 few_of meant T [] h = omega arith
 few_of meant T (c ∷ us) h =
-    let own : length (queue meant T c) ≤ c.places.end - c.places.start = simp (length-map, length-take, length-drop) (omega arith) in
+    let own : length (queue meant T c) ≤ c.count = simp (length-map, length-take, length-drop) (omega arith) in
     omega (arith, few_of meant T us (omega arith), own, length-append (queue meant T c) (flat (map (queue meant T) us)))
 
 few_wait : {L : Type 0} (meant : L → LotFigures) (cs : Candidates L) → length (waiting meant cs) ≤ 800

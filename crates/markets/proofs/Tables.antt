@@ -1,5 +1,5 @@
 -- The table of candidates: a unit more, and a unit one of whose lots was looked at.
-use Rattle.std.proofs.Common.{◌≡◌, ℕ, zero, suc, ◌+◌, ◌-◌, ◌<◌, ◌≤◌, min, max, List, [], ◌∷◌, ◌++◌, map, length, get_or, set, take, drop, slice_range, sym, refl, ap, ap₂, ◌∙◌, arith}
+use Rattle.std.proofs.Common.{◌≡◌, ℕ, zero, suc, ◌+◌, ◌-◌, ◌<◌, ◌≤◌, min, max, List, [], ◌∷◌, ◌++◌, map, length, get_or, set, take, drop, sym, refl, ap, ap₂, ◌∙◌, arith}
 use Rattle.std.proofs.lemmas.List.{drop_more, length-map, length-take, length-drop, take-append-le, drop-append-le}
 use Rattle.std.proofs.Math.Seq.{drop-append_seam}
 use Rattle.units.specs.declared.figures.Figures.{Figures}
@@ -43,32 +43,31 @@ figures_of_all meant f (x ∷ xs) l rest e = sym (ap (λ (m : Remaining). m.figu
 
 module _ {L : Type 0} (meant : L → LotFigures) (T : List (Left L)) (c : Candidate) where
   -- the next lot is l
-  pub queue_head : (l : Left L) → c.places.start < c.places.end → c.places.start < length T → l ≡ get_or T c.places.start l →
+  pub queue_head : (l : Left L) → 0 < c.count → c.next < length T → l ≡ get_or T c.next l →
       (rest : List Remaining) × (queue meant T c ≡ remaining meant c.figures l ∷ rest)
   queue_head l h k e =
       let f = remaining meant c.figures in
-      let i = c.places.start in
-      let n = c.places.end - c.places.start in
+      let i = c.next in
+      let n = c.count in
       (map f (take (n - 1) (drop (i + 1) T)), ap (map f) (own_more T i n l k (omega arith)) ∙ ap (λ x. f x ∷ map f (take (n - 1) (drop (i + 1) T))) (sym e))
 
-  pub queue_some : (l : Remaining) (rest : List Remaining) → queue meant T c ≡ l ∷ rest → c.places.start < c.places.end
-  queue_some l rest e = omega (arith, long (remaining meant c.figures) T c.places.start (c.places.end - c.places.start) l rest e)
+  pub queue_some : (l : Remaining) (rest : List Remaining) → queue meant T c ≡ l ∷ rest → 0 < c.count
+  queue_some l rest e = omega (arith, long (remaining meant c.figures) T c.next c.count l rest e)
 
   pub queue_figures : (l : Remaining) (rest : List Remaining) → queue meant T c ≡ l ∷ rest → l.figures ≡ c.figures
   queue_figures l rest e = figures_of_all meant c.figures (own_lots T c) l rest e
 
   -- c' is c with its next lot looked at
-  pub queue_tail : (c' : Candidate) (l : Remaining) (rest : List Remaining) → c'.figures ≡ c.figures → c'.places.start ≡ c.places.start + 1 → c'.places.end ≡ c.places.end →
+  pub queue_tail : (c' : Candidate) (l : Remaining) (rest : List Remaining) → c'.figures ≡ c.figures → c'.next ≡ c.next + 1 → c'.count ≡ c.count - 1 →
       queue meant T c ≡ l ∷ rest → queue meant T c' ≡ rest
-  queue_tail c' l rest same start end e =
-      let n : c'.places.end - c'.places.start ≡ c.places.end - c.places.start - 1 = omega arith in
-      ap₂ (λ a b. map (remaining meant c'.figures) (take a (drop b T))) n start
-      ∙ (ap (λ g. map (remaining meant g) (take (c.places.end - c.places.start - 1) (drop (c.places.start + 1) T))) same
-      ∙ tail_of (remaining meant c.figures) T c.places.start (c.places.end - c.places.start) l rest e)
+  queue_tail c' l rest same next fewer e =
+      ap₂ (λ a b. map (remaining meant c'.figures) (take a (drop b T))) fewer next
+      ∙ (ap (λ g. map (remaining meant g) (take (c.count - 1) (drop (c.next + 1) T))) same
+      ∙ tail_of (remaining meant c.figures) T c.next c.count l rest e)
 
 -- ---- lots put behind the table
-own_kept : {X : Type 0} (T new : List X) (k e : ℕ) → e ≤ length T → slice_range (T ++ new) k e ≡ slice_range T k e
-own_kept T new k e h = by_count (e - k) (λ p. omega arith)
+own_kept : {X : Type 0} (T new : List X) (k n : ℕ) → k + n ≤ length T → take n (drop k (T ++ new)) ≡ take n (drop k T)
+own_kept T new k n h = by_count n (λ p. h)
   where
     by_count : (n : ℕ) → (0 < n → k + n ≤ length T) → take n (drop k (T ++ new)) ≡ take n (drop k T)
     by_count zero p = refl
@@ -77,10 +76,9 @@ own_kept T new k e h = by_count (e - k) (λ p. omega arith)
         let l : suc m ≤ length (drop k T) = simp length-drop (omega arith) in
         ap (take (suc m)) (drop-append-le k T new (omega arith)) ∙ take-append-le (suc m) (drop k T) new l
 
-own_new : {X : Type 0} (T new : List X) (k e : ℕ) → k ≡ length T → e ≡ k + length new → slice_range (T ++ new) k e ≡ new
-own_new T new k e start end =
-    let n : e - k ≡ length new = omega arith in
-    ap₂ (λ n k. take n (drop k (T ++ new))) n start ∙ (ap (take (length new)) (drop-append_seam T new) ∙ take-all new)
+own_new : {X : Type 0} (T new : List X) (k n : ℕ) → k ≡ length T → n ≡ length new → take n (drop k (T ++ new)) ≡ new
+own_new T new k n behind all =
+    ap₂ (λ n k. take n (drop k (T ++ new))) all behind ∙ (ap (take (length new)) (drop-append_seam T new) ∙ take-all new)
   where
     take-all : {X : Type 0} (xs : List X) → take (length xs) xs ≡ xs
     take-all [] = refl
@@ -90,29 +88,29 @@ own_new T new k e start end =
 module _ {L Y : Type 0} (G : Candidate → List (Left L) → Y) (T new : List (Left L)) where
   each_kept : (us : List Candidate) → furthest us ≤ length T → map (λ c. G c (own_lots (T ++ new) c)) us ≡ map (λ c. G c (own_lots T c)) us
   each_kept [] h = refl
-  each_kept (c ∷ us) h = ap₂ ◌∷◌ (ap (G c) (own_kept T new c.places.start c.places.end (omega arith))) (each_kept us (omega arith))
+  each_kept (c ∷ us) h = ap₂ ◌∷◌ (ap (G c) (own_kept T new c.next c.count (omega arith))) (each_kept us (omega arith))
 
-  pub each_added : (us : List Candidate) (c : Candidate) → furthest us ≤ length T → c.places.start ≡ length T → c.places.end ≡ length T + length new →
+  pub each_added : (us : List Candidate) (c : Candidate) → furthest us ≤ length T → c.next ≡ length T → c.count ≡ length new →
       map (λ c. G c (own_lots (T ++ new) c)) (us ++ c ∷ []) ≡ map (λ c. G c (own_lots T c)) us ++ G c new ∷ []
-  each_added [] c h start end = ap (λ xs. G c xs ∷ []) (own_new T new c.places.start c.places.end start (end ∙ ap (λ k. k + length new) (sym start)))
-  each_added (u ∷ us) c h start end = ap₂ ◌∷◌ (ap (G u) (own_kept T new u.places.start u.places.end (omega arith))) (each_added us c (omega arith) start end)
+  each_added [] c h behind all = ap (λ xs. G c xs ∷ []) (own_new T new c.next c.count behind all)
+  each_added (u ∷ us) c h behind all = ap₂ ◌∷◌ (ap (G u) (own_kept T new u.next u.count (omega arith))) (each_added us c (omega arith) behind all)
 
-pub furthest_more : (us : List Candidate) (c : Candidate) → furthest (us ++ c ∷ []) ≡ max (furthest us) c.places.end
+pub furthest_more : (us : List Candidate) (c : Candidate) → furthest (us ++ c ∷ []) ≡ max (furthest us) (c.next + c.count)
 furthest_more [] c = omega arith
 furthest_more (u ∷ us) c = omega (arith, furthest_more us c)
 
-pub most_more : (us : List Candidate) (c : Candidate) → most_lots (us ++ c ∷ []) ≡ max (most_lots us) (c.places.end - c.places.start)
+pub most_more : (us : List Candidate) (c : Candidate) → most_lots (us ++ c ∷ []) ≡ max (most_lots us) c.count
 most_more [] c = omega arith
 most_more (u ∷ us) c = omega (arith, most_more us c)
 
 -- ---- c' in the place of c, with a lot less
-pub furthest_set : (us : List Candidate) (i : ℕ) (c c' : Candidate) → i < length us → c ≡ get_or us i c → c'.places.end ≡ c.places.end → furthest (set us i c') ≤ furthest us
+pub furthest_set : (us : List Candidate) (i : ℕ) (c c' : Candidate) → i < length us → c ≡ get_or us i c → c'.next + c'.count ≡ c.next + c.count → furthest (set us i c') ≤ furthest us
 furthest_set [] i c c' h e k = absurd (omega arith)
-furthest_set (u ∷ us) zero c c' h e k = omega (arith, k, ap (λ (w : Candidate). w.places.end) e)
+furthest_set (u ∷ us) zero c c' h e k = omega (arith, k, ap (λ (w : Candidate). w.next + w.count) e)
 furthest_set (u ∷ us) (suc i) c c' h e k = omega (arith, furthest_set us i c c' (omega arith) e k)
 
-pub most_set : (us : List Candidate) (i : ℕ) (c c' : Candidate) → i < length us → c ≡ get_or us i c → c'.places.end - c'.places.start ≤ c.places.end - c.places.start →
+pub most_set : (us : List Candidate) (i : ℕ) (c c' : Candidate) → i < length us → c ≡ get_or us i c → c'.count ≤ c.count →
     most_lots (set us i c') ≤ most_lots us
 most_set [] i c c' h e k = absurd (omega arith)
-most_set (u ∷ us) zero c c' h e k = omega (arith, k, ap (λ (w : Candidate). w.places.end - w.places.start) e)
+most_set (u ∷ us) zero c c' h e k = omega (arith, k, ap (λ (w : Candidate). w.count) e)
 most_set (u ∷ us) (suc i) c c' h e k = omega (arith, most_set us i c c' (omega arith) e k)

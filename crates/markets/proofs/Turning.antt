@@ -70,12 +70,12 @@ module _ {L : Type 0} (rule : RuleModel) (meant : L → LotFigures) (cs : Candid
   behind sound = flat_behind rule first qs place rest lead.stands.1 sound.rise
       (λ j l n. lead.leads sound.orderly j (omega (arith, queues_long)) n)
 
-  pub goes_on : c.places.start < c.places.end
+  pub goes_on : 0 < c.count
   goes_on = queue_some meant cs.lots.items c first rest own
 
   -- k is taken of its first lot, which leaves cs', with c' in the place of c
   module _ (cs' : Candidates L) (c' : Candidate) (d k : ℕ) (now : cs'.units.items ≡ set cs.units.items f.place c') (table : cs'.lots.items ≡ cs.lots.items)
-      (same : c'.figures ≡ c.figures) (lesser : c'.eligible ≡ c.eligible - k) (start : c'.places.start ≡ c.places.start + 1) (end : c'.places.end ≡ c.places.end)
+      (same : c'.figures ≡ c.figures) (lesser : c'.eligible ≡ c.eligible - k) (next : c'.next ≡ c.next + 1) (fewer : c'.count ≡ c.count - 1)
       (least : k ≡ min f.left.rest (min c.eligible d)) where
     now_units : units_in cs' ≡ set (units_in cs) place (entrant c')
     now_units = ap (map entrant) now ∙ map-set entrant cs.units.items place c'
@@ -84,7 +84,7 @@ module _ {L : Type 0} (rule : RuleModel) (meant : L → LotFigures) (cs : Candid
     now_queues =
         ap₂ (λ T us. map (queue meant T) us) table now
         ∙ (map-set (queue meant cs.lots.items) cs.units.items place c'
-        ∙ ap (set qs place) (queue_tail meant cs.lots.items c c' first rest same start end own))
+        ∙ ap (set qs place) (queue_tail meant cs.lots.items c c' first rest same next fewer own))
 
     number_is : c'.figures.number ≡ c.figures.number
     number_is = ap (λ (w : Figures). w.number) same

@@ -1,5 +1,5 @@
 -- The units of a selection with their lots, as the program holds them.
-use Rattle.std.specs.Prelude.{ℕ, cond, List, [], ◌∷◌, map, slice_range, ℤ, ◌<ℤ◌, ◌==◌, ◌≢◌}
+use Rattle.std.specs.Prelude.{ℕ, cond, List, [], ◌∷◌, map, take, drop, ℤ, ◌<ℤ◌, ◌==◌, ◌≢◌}
 use Rattle.std.specs.List.{flat_map, AllByRecursion}
 use Rattle.units.specs.declared.figures.Figures.{Figures}
 use Rattle.lots.specs.Sums.{Pairwise}
@@ -31,7 +31,7 @@ entrant c = entered c.figures c.eligible
 
 -- the lots of a table that a unit still has to offer
 abbrev pub own_lots : {L : Type 0} → List (Left L) → Candidate → List (Left L)
-own_lots table c = slice_range table c.places.start c.places.end
+own_lots table c = take c.count (drop c.next table)
 
 -- the same as choosing sees them
 abbrev pub queue : {L : Type 0} → (L → LotFigures) → List (Left L) → Candidate → List Remaining

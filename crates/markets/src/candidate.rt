@@ -1,12 +1,11 @@
 // The units of a selection with their lots.
-ghost use Rattle.std.specs.Prelude.{◌*◌, ◌≤◌, length, Some, codes};
+ghost use Rattle.std.specs.Prelude.{◌≡◌, ◌*◌, ◌≤◌, length, Some, codes};
 ghost use Rattle.markets.specs.Places.{furthest, most_lots};
 
 use arrayvec::{ArrayVec, CapacityError};
 use std::default::MadeWith;
 use std::error::Error;
 use std::fmt;
-use std::ops::Range;
 use units::figures::Figures;
 
 mod acts;
@@ -20,17 +19,20 @@ pub struct Left<L> {
 }
 
 impl<L: Copy> MadeWith<L> for Left<L> {
+    ghost is_made_with = { λ left. left.rest ≡ 0 };
+
     fn made_with(lot: L) -> Left<L> {
         Left { lot, rest: 0 }
     }
 }
 
-// A unit: its registered figures, its unused eligible energy, and the places of its lots that were not looked at yet.
-#[derive(Debug, Default, PartialEq, Eq, Hash, Drop)]
+// A unit: its registered figures, its unused eligible energy, the place of its next lot, and how many of its lots were not looked at yet.
+#[derive(Clone, Copy, Debug, Default, PartialEq, Eq, Hash)]
 pub struct Candidate {
-    figures: Figures,
-    eligible: u32,
-    places: Range<usize>,
+    pub figures: Figures,
+    pub eligible: u32,
+    pub next: usize,
+    pub count: usize,
 }
 
 // Up to 32 units of up to 25 lots, each unit's in rising cost.

@@ -13,6 +13,8 @@ pub struct Chosen<L> {
 }
 
 impl<L: Copy> MadeWith<L> for Chosen<L> {
+    ghost is_made_with = { λ chosen. (chosen.unit ≡ 0) × (chosen.megawatts ≡ 0) };
+
     fn made_with(lot: L) -> Chosen<L> {
         Chosen {
             unit: 0,

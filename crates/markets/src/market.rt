@@ -4,12 +4,12 @@ ghost use Rattle.units.specs.Units.{state_of};
 ghost use Rattle.markets.specs.Models.{MarketModel};
 ghost use Rattle.markets.specs.Either.{by_cases};
 ghost use Rattle.markets.specs.Energy.{ramp, nil, below_minimum, band_eligible};
-ghost use Rattle.markets.specs.Markets.{up_market, down_market, band_market};
+ghost use Rattle.markets.specs.Markets.{up_market, down_market, band_market, market_of};
 
 use either::{Either, for_both};
 use lots::standing::Standing;
 use units::figures::Class;
-use units::side::Side;
+use units::side::{MarketNumber, Side};
 use units::unit::GeneratingUnit;
 
 // A market tells its side, which is one for all units, and the eligible energy of a unit.
@@ -147,6 +147,19 @@ pub const FAST_DOWN: FastDown = DownWithin;
 pub const SLOW_UP: SlowUp = UpWithin;
 
 pub const SLOW_DOWN: SlowDown = DownWithin;
+
+// The eligible energy of a unit in the market with a number. Each value above stands for its number here.
+pub fn eligible_in(market: MarketNumber, unit: &GeneratingUnit, standing: &Standing) -> u32
+    ensures is_the_eligible_energy_of_the_market_of_the_number { result ≡ (market_of market).eligible (state_of unit.now) standing.now }
+{
+    match market {
+        MarketNumber::Band => Band.eligible(unit, standing),
+        MarketNumber::FastUp => FAST_UP.eligible(unit, standing),
+        MarketNumber::FastDown => FAST_DOWN.eligible(unit, standing),
+        MarketNumber::SlowUp => SLOW_UP.eligible(unit, standing),
+        MarketNumber::SlowDown => SLOW_DOWN.eligible(unit, standing),
+    }
+}
 
 // One of two markets.
 impl<A: Market, B: Market> Market for Either<A, B> {

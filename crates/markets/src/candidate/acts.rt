@@ -34,12 +34,13 @@ impl<L: Lot> Candidates<L> {
         if self.units.is_full() || lots.len() > 25 {
             return Err(NoRoom);
         }
-        let start = self.lots.len();
+        let next = self.lots.len();
         self.lots.try_extend_from_slice(lots)?;
         self.units.push(Candidate {
             figures,
             eligible,
-            places: start..self.lots.len(),
+            next,
+            count: lots.len(),
         });
         Ok(())
     }

@@ -38,9 +38,10 @@ fn first_of_two<L: Lot, R: TieRule>(
 ) -> Option<Front<L>>
     ensures is_the_earlier { result ≡ earlier (R.TieRule.model rule.now) L.Lot.figures held next }
 {
-    match (held, next) {
-        (Some(a), Some(b)) => Some(if goes_before(rule, &b, &a) { b } else { a }),
-        (None, other) | (other, None) => other,
+    match (&held, &next) {
+        (Some(a), Some(b)) if goes_before(rule, b, a) => next,
+        (None, _) => next,
+        _ => held,
     }
 }
 
@@ -56,10 +57,10 @@ impl<L: Lot> Candidates<L> {
     fn front(&self, place: usize, unit: &Candidate) -> Option<Front<L>>
         ensures is_the_next_lot { Heads L.Lot.figures (queue L.Lot.figures self.now.lots.items unit.now) place result }
     {
-        if unit.places.is_empty() {
+        if unit.count == 0 {
             return None;
         }
-        let left = *self.lots.as_slice().get(unit.places.start)?;
+        let left = *self.lots.as_slice().get(unit.next)?;
         Some(Front {
             place,
             figures: unit.figures,
@@ -86,7 +87,8 @@ impl<L: Lot> Candidates<L> {
         let unit = self.units.get_mut(first.place)?;
         let part = part_of(first.left.rest, unit.eligible, unfilled);
         unit.eligible -= part;
-        unit.places.start += 1;
+        unit.next += 1;
+        unit.count -= 1;
         Some(Chosen {
             unit: unit.figures.number,
             lot: first.left.lot,
