@@ -1,22 +1,13 @@
 -- The longest line, and the longest listing.
-use Rattle.std.proofs.Common.{◌*◌, ◌<◌, ◌≤◌, List, [], ◌∷◌, length, arith}
+use Rattle.std.proofs.Common.{◌*◌, ◌≤◌, List, [], ◌∷◌, length, arith}
 use Rattle.std.specs.List.{AllByRecursion}
 use Rattle.std.proofs.lemmas.List.{length-append}
 use Rattle.std.proofs.lemmas.Fmt.{length-decimal-le, length_signed_le}
 use Rattle.units.specs.Sides.{market_number}
-use Rattle.units.specs.declared.side.MarketNumber.{MarketNumber}
-use Rattle.units.specs.declared.side.MarketNumber.TheVariants.{Band, FastUp, FastDown, SlowUp, SlowDown}
 use Rattle.ledger.specs.declared.row.Row.{Row}
 use Rattle.report.specs.Listing.{row_text, lines}
 use Rattle.report.specs.Bounds.{Typed, ListingBounded}
-use Rattle.report.proofs.Lines.{length-listing, length_row_digits}
-
-market_digit : (m : MarketNumber) → market_number m < 10
-market_digit Band = omega arith
-market_digit FastUp = omega arith
-market_digit FastDown = omega arith
-market_digit SlowUp = omega arith
-market_digit SlowDown = omega arith
+use Rattle.report.proofs.Lines.{length-listing, length_row_digits, market_digit}
 
 row_bounded : (r : Row) → Typed r → length (row_text r) ≤ 47
 row_bounded r t =

@@ -1,15 +1,17 @@
 // The listing of rows as text, in a lent buffer.
 #![tactic(auto)]
 
-ghost use Rattle.std.specs.Prelude.{◌≡◌, ◌≤◌, ◌++◌, length, drop, IfOk, IsSome, IsTrue, ◌↔◌, if◌then◌else◌, Ok, Err, nat_le};
+ghost use Rattle.std.specs.Prelude.{◌≡◌, ◌+◌, ◌≤◌, ◌++◌, length, drop, IfOk, IfSome, IsSome, IsTrue, ◌↔◌, if◌then◌else◌, Ok, Err, nat_le};
 ghost use Rattle.units.specs.declared.refusal.Refusal.TheVariants.{ListingTooLong};
 ghost use Rattle.report.specs.Listing.{listing};
 ghost use Rattle.report.specs.Bounds.{ListingBounded};
 
-use crate::line::line;
+use crate::length::line_length;
+use crate::line::put_line;
 use ledger::row::Row;
 use units::refusal::Refusal;
 
+mod length;
 mod line;
 
 const HEADER: &[u8] = b"selection,market,unit,up,down,megawatts,cost,state\n";
@@ -21,27 +23,26 @@ pub fn list(rows: &[Row], out: &mut [u8]) -> Result<usize, Refusal>
     ensures writes_the_listing_in_front_or_nothing { out.new ≡ (if nat_le (length (listing rows.now)) (length out.old) then listing rows.now ++ drop (length (listing rows.now)) out.old else out.old) }
     ensures length_is_within_the_buffer { IfOk result (λ n. n ≤ length out.old) }
 {
-    room_after(rows, out.len()).ok_or(Refusal::ListingTooLong)?;
-    // the place is counted here alone: what is behind it is written in turn, and read by nobody else
-    let mut at = HEADER.len();
-    out[..at].copy_from_slice(HEADER);
-    for row in rows {
-        let line = line(row);
-        let end = at + line.len();
-        out[at..end].copy_from_slice(line.as_bytes());
-        at = end;
+    let left = room_after(rows, out.len()).ok_or(Refusal::ListingTooLong)?;
+    let length = out.len() - left;
+    // from the last line to the first, each from its end to its front, so that no text is copied
+    let mut at = length;
+    for row in rows.iter().rev() {
+        at = put_line(row, out, at);
     }
-    Ok(at)
+    out[..at].copy_from_slice(HEADER);
+    Ok(length)
 }
 
 // How many of `room` bytes the listing of the rows leaves.
 #[tactic(auto, using(crate::proofs::Lines::listing_steps))]
 fn room_after(rows: &[Row], room: usize) -> Option<usize>
     ensures is_some_where_the_listing_fits { IsSome result ↔ (length (listing rows.now) ≤ room) }
+    ensures is_what_the_listing_leaves { IfSome result (λ left. left + length (listing rows.now) ≡ room) }
 {
     let mut left = room.checked_sub(HEADER.len())?;
     for row in rows {
-        left = left.checked_sub(line(row).len())?;
+        left = left.checked_sub(line_length(row))?;
     }
     Some(left)
 }

@@ -1,49 +1,62 @@
-// The line of a row. It is no `Display`: no clause of `write!` says that it succeeds where there is room, and it takes twice as long.
-ghost use Rattle.std.specs.Prelude.{◌≡◌, ◌+◌, ◌≤◌, [], ◌∷◌, ◌++◌, codes};
-ghost use Rattle.arrayvec.specs.ArrayString.{array_string_len};
-ghost use Rattle.report.specs.Listing.{state_letter, row_text};
+// The line of a row, written from its end to its front, as the kit writes digits. It is no `Display`: no clause of `write!` says that it succeeds where there is room, and it takes more than twice as long.
+ghost use Rattle.std.specs.Prelude.{◌≡◌, ◌+◌, ◌≤◌, ◌++◌, length, drop};
+ghost use Rattle.report.specs.Listing.{number_field, signed_field, state_letter, row_text};
 
-use arrayvec::ArrayString;
-use itoa::{Buffer, Integer};
+use itoa::write_digits;
 use ledger::row::{Row, State};
 
-// Room for the longest line.
-const ROOM: usize = 64;
-
-// Inlined, so that a caller that asks for the length alone writes nothing.
-#[inline(always)]
-pub(crate) fn line(row: &Row) -> ArrayString<ROOM>
-    ensures { result.bytes ≡ row_text row.now }
+// Each `put` writes a text that ends at `end`, and answers where it starts.
+pub(crate) fn put_line(row: &Row, out: &mut [u8], end: usize) -> usize
+    requires { (length (row_text row.now) ≤ end) × (end ≤ length out.old) }
+    ensures starts_a_line_before_the_end { result + length (row_text row.now) ≡ end }
+    ensures writes_the_line { drop result out.new ≡ row_text row.now ++ drop end out.old }
 {
-    let mut line = ArrayString::new();
-    put_field(&mut line, row.selection);
-    put_field(&mut line, u16::from(row.market));
-    put_field(&mut line, row.unit);
-    put_field(&mut line, row.up);
-    put_field(&mut line, row.down);
-    put_field(&mut line, row.megawatts);
-    put_field(&mut line, row.cost);
-    line.push_str(letter(row.state));
-    line.push_str("\n");
-    line
+    out[end - 1] = b'\n';
+    out[end - 2] = letter(row.state);
+    let cost = put_signed_field(row.cost, out, end - 2);
+    let megawatts = put_field(row.megawatts, out, cost);
+    let down = put_field(u32::from(row.down), out, megawatts);
+    let up = put_field(u32::from(row.up), out, down);
+    let unit = put_field(u32::from(row.unit), out, up);
+    let market = put_field(u32::from(u16::from(row.market)), out, unit);
+    put_field(u32::from(row.selection), out, market)
 }
 
+// Inlined, so that a number of few bits is written with few tests.
 #[inline(always)]
-fn put_field<N: Integer>(line: &mut ArrayString<ROOM>, number: N)
-    requires { array_string_len line.old + N.MAX_STR_LEN + 1 ≤ ROOM }
-    ensures puts_the_number_and_a_comma { line.new.bytes ≡ line.old.bytes ++ (N.text number ++ codes ",") }
-    ensures takes_at_most_the_longest_number { array_string_len line.new ≤ array_string_len line.old + N.MAX_STR_LEN + 1 }
+fn put_field(n: u32, out: &mut [u8], end: usize) -> usize
+    requires { (length (number_field n) ≤ end) × (end ≤ length out.old) }
+    ensures starts_a_field_before_the_end { result + length (number_field n) ≡ end }
+    ensures writes_the_number_and_a_comma { drop result out.new ≡ number_field n ++ drop end out.old }
 {
-    line.push_str(Buffer::new().format(number));
-    line.push_str(",");
+    out[end - 1] = b',';
+    // most numbers of a row have one digit, which is quicker by itself; `u8::try_from` would test it twice
+    if n < 10 {
+        out[end - 2] = b'0' + n as u8;
+        return end - 2;
+    }
+    write_digits(u64::from(n), out, end - 1)
+}
+
+fn put_signed_field(n: i32, out: &mut [u8], end: usize) -> usize
+    requires { (length (signed_field n) ≤ end) × (end ≤ length out.old) }
+    ensures starts_a_field_before_the_end { result + length (signed_field n) ≡ end }
+    ensures writes_the_number_and_a_comma { drop result out.new ≡ signed_field n ++ drop end out.old }
+{
+    let start = put_field(n.unsigned_abs(), out, end);
+    if n >= 0 {
+        return start;
+    }
+    out[start - 1] = b'-';
+    start - 1
 }
 
 // No `Display`, as with the line.
-fn letter(state: State) -> &'static str
-    ensures is_the_letter_of_the_state { result.now ≡ state_letter state ∷ [] }
+fn letter(state: State) -> u8
+    ensures is_the_letter_of_the_state { result ≡ state_letter state }
 {
     match state {
-        State::Open => "O",
-        State::Confirmed => "C",
+        State::Open => b'O',
+        State::Confirmed => b'C',
     }
 }

@@ -1,17 +1,29 @@
-use Rattle.std.proofs.Common.{rules, ◌+◌, ◌++◌, drop, refl, sym, ap, arith}
-use Rattle.report.specs.Listing.{header}
-use Rattle.report.proofs.Lines.{length-take_header, line_written}
+use Rattle.std.proofs.Common.{arith, [], ◌++◌, ◌≡◌, drop, length, ap, ◌∙◌}
+use Rattle.std.specs.Slice.Iter.{iter_rest}
+use Rattle.std.specs.Iterator.Adapters.{rev_source}
+use Rattle.std.proofs.lemmas.List.{length-take-le, nil_from_length}
+use Rattle.std.proofs.lemmas.Grind.{common_steps}
+use Rattle.report.specs.Listing.{header, listing}
+use Rattle.report.proofs.Lines.{line_room, length-listing-empty}
 use Rattle.report.proofs.list.Goals as goal
 
-pub slice_bounds-copy_from_slice-end-2 : goal.slice_bounds-copy_from_slice-end-2
-slice_bounds-copy_from_slice-end-2 c = sym (length-take_header c.args.rows.now c.args.out.now (search rules))
+pub put_line-at-requires : goal.put_line-at-requires
+put_line-at-requires c =
+    let w = c.loop-row.invariant.written in
+    let room = line_room w (iter_rest (rev_source c.next.new.self)) c.in-Some.row.now c.in-Some.ensures.steps in
+    (omega arith, w.within)
 
 pub copy_from_slice-requires : goal.copy_from_slice-requires
-copy_from_slice-requires c = length-take_header c.args.rows.now c.args.out.now (search rules)
+copy_from_slice-requires c =
+    let w = c.loop-row.invariant.written in
+    let none : iter_rest (rev_source c.loop-row.row-iterator) ≡ [] = nil_from_length _ c.in-None.ensures.steps.0 in
+    length-take-le c.loop-row.at c.loop-row.out w.within ∙ w.place ∙ ap (λ l. length (listing l)) none ∙ length-listing-empty
 
-pub loop-row-init : goal.loop-row-init
+pub returns-clause-writes_the_listing_in_front_or_nothing : goal.returns-clause-writes_the_listing_in_front_or_nothing
 unfolding header
-loop-row-init c = record { count = omega arith; place = refl; bytes = ap (λ l. l ++ drop 51 c.args.out.now) c.copy_from_slice.ensures.after }
-
-pub loop-row-preserved : goal.loop-row-preserved
-loop-row-preserved c = line_written c.loop-row.invariant c.loop-row-test.true c.copy_from_slice-in-loop-row.new.self (c.loop-row.at + c.len.result) (search rules) (search rules)
+returns-clause-writes_the_listing_in_front_or_nothing c =
+    let w = c.loop-row.invariant.written in
+    let none : iter_rest (rev_source c.loop-row.row-iterator) ≡ [] = nil_from_length _ c.in-None.ensures.steps.0 in
+    let all : c.copy_from_slice.new.self ++ drop c.loop-row.at c.loop-row.out ≡ listing c.args.rows.now ++ drop (length (listing c.args.rows.now)) c.args.out.now =
+    ap (λ l. l ++ drop c.loop-row.at c.loop-row.out) c.copy_from_slice.ensures.after ∙ (rw none at w.bytes) in
+    grind (arith, common_steps)
