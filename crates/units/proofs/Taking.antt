@@ -1,6 +1,6 @@
 -- The steps of the loops that take megawatts off an offer.
 use Rattle.std.proofs.Common.{◌≡◌, ℕ, zero, suc, ◌+◌, ◌-◌, ◌<◌, ◌≤◌, min, List, [], ◌∷◌, ◌++◌, reverse, length, get_or, take, drop, set, sym, refl, ap, ◌∙◌, arith}
-use Rattle.std.proofs.lemmas.List.{append_assoc, take_more_set, drop_more, drop-set-lt, take_all, drop_all, append-nil, reverse-append}
+use Rattle.std.proofs.lemmas.List.{append_assoc, take_more, take_more_set, drop_more, drop-set-lt, set_at, get_or_at, length-take-le, take_all, drop_all, append-nil, reverse-append}
 use Rattle.units.specs.declared.pair.Pair.{Pair}
 use Rattle.units.specs.Pairs.{pair, summed}
 use Rattle.units.specs.Moves.{off_front, off_back, grow_last}
@@ -51,6 +51,44 @@ backwards d (p ∷ ps) =
     let v = pair (p.quantity - (d - summed ps)) p.price in
     let a : off_front d (reverse (p ∷ ps)) ≡ off_front d (reverse ps) ++ (v ∷ []) = ap (off_front d) (reverse-cons p ps) ∙ rw (summed-reverse ps) at (off_front_push d (reverse ps) p) in
     ap (λ r. v ∷ r) (backwards d ps) ∙ sym (ap reverse a ∙ reverse-append (off_front d (reverse ps)) (v ∷ []))
+
+pub record Backing (qs ps : List Pair) (d i left : ℕ) : Type 0 where
+  pub within : i ≤ length qs
+  pub left_is : left ≡ d - summed (drop i qs)
+  pub holds : ps ≡ take i qs ++ by_sum d (drop i qs)
+
+pub backing_none : (qs : List Pair) (d : ℕ) → Backing qs qs d (length qs) d
+backing_none qs d =
+    let n = length qs in
+    let e : drop n qs ≡ [] = drop_all n qs (omega arith) in
+    record { within = omega arith; left_is = rw e (omega arith); holds = rw (e, take_all n qs (omega arith)) (sym (append-nil qs)) }
+
+pub backing_more : {qs ps : List Pair} {d k left : ℕ} → Backing qs ps d k left → 0 < k → (part : ℕ) → part ≡ min (get_or ps (k - 1) none).quantity left →
+    Backing qs (set ps (k - 1) (less (get_or ps (k - 1) none) part)) d (k - 1) (left - part)
+backing_more {qs} {ps} {d} {k} {left} b z part e =
+    let i = k - 1 in
+    let p = get_or qs i none in
+    let rest = drop (i + 1) qs in
+    let h : i < length qs = omega (arith, b.within) in
+    let s : k ≡ i + 1 = omega arith in
+    let l : left ≡ d - summed rest = b.left_is ∙ ap (λ m. d - summed (drop m qs)) s in
+    let f : ps ≡ take i qs ++ (p ∷ by_sum d rest) =
+    b.holds ∙ (ap (λ m. take m qs ++ by_sum d (drop m qs)) s ∙ rw (take_more qs i none h) (append_assoc (take i qs) (p ∷ []) (by_sum d rest))) in
+    let long : length (take i qs) ≡ i = length-take-le i qs (omega arith) in
+    let g : get_or ps i none ≡ p = ap (λ xs. get_or xs i none) f ∙ get_or_at (take i qs) p (by_sum d rest) none i long in
+    let q : (get_or ps i none).quantity ≡ p.quantity = ap (λ (x : Pair). x.quantity) g in
+    let a : (get_or ps i none).quantity - part ≡ p.quantity - (d - summed rest) = omega arith in
+    let v : less (get_or ps i none) part ≡ less p (d - summed rest) = rw a (ap (λ (x : Pair). pair (p.quantity - (d - summed rest)) x.price) g) in
+    record {
+      within = omega arith;
+      left_is = rw (drop_more qs i none h) (omega arith);
+      holds = rw v (ap (λ xs. set xs i (less p (d - summed rest))) f ∙ (set_at (take i qs) p (by_sum d rest) (less p (d - summed rest)) i long ∙ rw (drop_more qs i none h)));
+    }
+
+pub backing_all : {qs ps : List Pair} {d i left : ℕ} → Backing qs ps d i left → i ≤ 0 → ps ≡ off_back d qs
+backing_all {qs} {ps} {d} {i} {left} b h =
+    let e : i ≡ 0 = omega arith in
+    b.holds ∙ (ap (λ m. take m qs ++ by_sum d (drop m qs)) e ∙ backwards d qs)
 
 -- ---- growing
 pub grown_last : (d : ℕ) (p : Pair) (ps : List Pair) → set (p ∷ ps) (length ps) (pair ((get_or (p ∷ ps) (length ps) none).quantity + d) (get_or (p ∷ ps) (length ps) none).price) ≡ grow_last d (p ∷ ps)

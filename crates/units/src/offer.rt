@@ -61,12 +61,17 @@ fn take_off_front(pairs: &mut [Pair], d: u32)
 }
 
 // Takes d off from the last pair backwards.
+// By index: to reverse the pairs and back takes longer, and after `iter_mut().rev()` a proof knows no pair.
 fn take_off_back(pairs: &mut [Pair], d: u32)
     ensures takes_off_from_the_back { pairs.new ≡ off_back d pairs.old }
 {
-    pairs.reverse();
-    take_off_front(pairs, d);
-    pairs.reverse();
+    let mut left = d;
+    for i in (0..pairs.len()).rev() {
+        let pair = &mut pairs[i];
+        let part = pair.quantity.min(left);
+        pair.quantity -= part;
+        left -= part;
+    }
 }
 
 // The premises are no facts of a type: an offer of one pair may have any quantity. From and to are two
