@@ -1,39 +1,46 @@
--- The highest and the lowest of some prices, as iterators pick them.
-use Rattle.std.proofs.Common.{◌≡◌, Bool, eqb, List, [], ◌∷◌, Option, ℤ, sym, refl, ◌∙◌, arith}
+-- The highest and the lowest of some prices, as a fold picks them.
+use Rattle.std.proofs.Common.{◌≡◌, Bool, true, false, cond, eqb, List, [], ◌∷◌, map, Option, Some, None, ℤ, refl}
 use Rattle.std.specs.Int.{int_max, int_min}
-use Rattle.std.specs.List.{reduce}
-use Rattle.std.specs.Ordering.{int_cmp, max_by_ordering, min_by_ordering}
-use Rattle.std.specs.Iterator.{PicksByCmp}
-use Rattle.std.proofs.lemmas.Int.{ints}
-use Rattle.std.proofs.lemmas.Iterator.{YieldsList}
-use Rattle.std.proofs.lemmas.Iterator.Adapters.{option_map_id}
-use Rattle.std.proofs.lemmas.Iterator.Consumers.{reduce_by_from_yields_List}
+use Rattle.std.specs.List.{fold}
 use Rattle.units.specs.declared.side.MarketNumber.{MarketNumber}
 use Rattle.units.specs.Sides.{market_number}
 use Rattle.ledger.specs.declared.row.Row.{Row}
-use Rattle.ledger.specs.Marginal.{highest, lowest}
+use Rattle.ledger.specs.Marginal.{highest, lowest, rows_of_market}
 
 abbrev pub is_of_market : MarketNumber → Row → Bool
 is_of_market m r = eqb (market_number r.market) (market_number m)
 
--- an iterator that yields some prices picks the highest and the lowest of them
-higher : (p z : ℤ) → max_by_ordering (int_cmp p z) p z ≡ int_max p z
-higher p z = grind (arith, ints)
+-- the better of a price and the best before it
+abbrev pub better : (ℤ → ℤ → ℤ) → Option ℤ → ℤ → ℤ
+better f None z = z
+better f (Some b) z = f b z
 
-lower : (p z : ℤ) → min_by_ordering (int_cmp p z) p z ≡ int_min p z
-lower p z = grind (arith, ints)
+module _ (f : ℤ → ℤ → ℤ) (price : Row → ℤ) (m : MarketNumber) where
+  -- the best of the market's prices once one row more is read
+  abbrev pub read : Option ℤ → Row → Option ℤ
+  read best r = cond (is_of_market m r) (Some (better f best (price r))) best
 
-highest_by : (zs : List ℤ) → reduce int_max zs ≡ highest zs
-highest_by [] = refl
-highest_by (z ∷ zs) = refl
+  read_on : (z : ℤ) (rows : List Row) → fold read (Some z) rows ≡ Some (fold f z (map price (rows_of_market m rows)))
+  read_on z [] = refl
+  read_on z (r ∷ rows) =
+      elim (is_of_market m r) as (λ b. fold read (cond b (Some (f z (price r))) (Some z)) rows ≡ Some (fold f z (map price (cond b (r ∷ rows_of_market m rows) (rows_of_market m rows))))) [
+        | true ↦ read_on (f z (price r)) rows
+        | false ↦ read_on z rows
+      ]
 
-lowest_by : (zs : List ℤ) → reduce int_min zs ≡ lowest zs
-lowest_by [] = refl
-lowest_by (z ∷ zs) = refl
+module _ (price : Row → ℤ) (m : MarketNumber) where
+  pub reads_highest : (rows : List Row) → fold (read int_max price m) None rows ≡ highest (map price (rows_of_market m rows))
+  reads_highest [] = refl
+  reads_highest (r ∷ rows) =
+      elim (is_of_market m r) as (λ b. fold (read int_max price m) (cond b (Some (price r)) None) rows ≡ highest (map price (cond b (r ∷ rows_of_market m rows) (rows_of_market m rows)))) [
+        | true ↦ read_on int_max price m (price r) rows
+        | false ↦ reads_highest rows
+      ]
 
-module _ {S : Type 0} {steps : S → Option ℤ → S → Type 0} {s : S} {zs : List ℤ} (r : Option ℤ) (yields : YieldsList steps (λ z. z) s zs) where
-  pub picks_highest : PicksByCmp steps max_by_ordering int_cmp s r → r ≡ highest zs
-  picks_highest ran = sym (option_map_id r) ∙ (reduce_by_from_yields_List (λ p z. max_by_ordering (int_cmp p z) p z) int_max s r higher ran yields ∙ highest_by zs)
-
-  pub picks_lowest : PicksByCmp steps min_by_ordering int_cmp s r → r ≡ lowest zs
-  picks_lowest ran = sym (option_map_id r) ∙ (reduce_by_from_yields_List (λ p z. min_by_ordering (int_cmp p z) p z) int_min s r lower ran yields ∙ lowest_by zs)
+  pub reads_lowest : (rows : List Row) → fold (read int_min price m) None rows ≡ lowest (map price (rows_of_market m rows))
+  reads_lowest [] = refl
+  reads_lowest (r ∷ rows) =
+      elim (is_of_market m r) as (λ b. fold (read int_min price m) (cond b (Some (price r)) None) rows ≡ lowest (map price (cond b (r ∷ rows_of_market m rows) (rows_of_market m rows)))) [
+        | true ↦ read_on int_min price m (price r) rows
+        | false ↦ reads_lowest rows
+      ]

@@ -42,24 +42,33 @@ fn row_price(units: &UnitTable, unit: u16, pair: u8) -> i32
 }
 
 // The highest upper price of a market's rows.
-// Two chains, for the highest and the lowest: one function for both would take three closures, and say less.
+// Two folds, for the highest and the lowest: one function for both would take three closures, and say less.
+// The closure tests the market, since a chain with `filter` takes longer over the rows of other markets.
 fn highest_upper(units: &UnitTable, rows: &[Row], market: MarketNumber) -> Option<i32>
     ensures is_the_highest { result ≡ highest (map (upper_price (units_of units.now)) (rows_of_market market rows.now)) }
 {
-    rows.iter()
-        .filter(|row| row.market == market)
-        .map(|row| row_price(units, row.unit, row.up))
-        .max()
+    rows.iter().fold(None, |best: Option<i32>, row| {
+        if row.market == market {
+            let price = row_price(units, row.unit, row.up);
+            Some(best.map_or(price, |highest| highest.max(price)))
+        } else {
+            best
+        }
+    })
 }
 
 // The lowest lower price of a market's rows.
 fn lowest_lower(units: &UnitTable, rows: &[Row], market: MarketNumber) -> Option<i32>
     ensures is_the_lowest { result ≡ lowest (map (lower_price (units_of units.now)) (rows_of_market market rows.now)) }
 {
-    rows.iter()
-        .filter(|row| row.market == market)
-        .map(|row| row_price(units, row.unit, row.down))
-        .min()
+    rows.iter().fold(None, |best: Option<i32>, row| {
+        if row.market == market {
+            let price = row_price(units, row.unit, row.down);
+            Some(best.map_or(price, |lowest| lowest.min(price)))
+        } else {
+            best
+        }
+    })
 }
 
 // What settles a market of this side, of its highest upper and its lowest lower price.
