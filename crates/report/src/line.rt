@@ -30,7 +30,7 @@ fn put_field(n: u32, out: &mut [u8], end: usize) -> usize
     ensures writes_the_number_and_a_comma { drop result out.new ≡ number_field n ++ drop end out.old }
 {
     out[end - 1] = b',';
-    // most numbers of a row have one digit, which is quicker by itself; `u8::try_from` would test it twice
+    // a market, an up and a down pair have one digit, which is quicker by itself; `u8::try_from` would test it twice
     if n < 10 {
         out[end - 2] = b'0' + n as u8;
         return end - 2;
